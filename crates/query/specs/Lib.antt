@@ -1,0 +1,5 @@
+pub mod Kinds
+pub mod Tree
+pub mod Rules
+pub mod Stands
+pub mod Laws
