@@ -1,0 +1,3 @@
+pub mod Ranges
+pub mod Listing
+pub mod Plain

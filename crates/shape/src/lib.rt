@@ -1,0 +1,6 @@
+//! When a shape fits a stretch of a line.
+
+pub mod laws;
+mod stretch;
+
+pub use stretch::Stretch;
