@@ -5,17 +5,16 @@ use mathlib.Core.List.{List}
 use mathlib.Core.Logic.{_⊎_, inl, inr}
 use mathlib.Core.Path.{_≡_, refl, sym, ap, ap₂, _∙_}
 use native.Mathlib.Omega.{arith}
-use lib.Dec.{ltb, leb}
+use lib.Dec.{ltb}
 use lib.ListN.{length}
 use Rattle.std.specs.declared.option.Option.{Option}
 use Rattle.std.specs.declared.option.Option.the-variants.{Some, None}
-use Rattle.std.proofs.shelf.Tests.{and-from, and-left, and-right, lt-ltb, le-ltb, lt-leb, le-leb, cond-true, cond-false}
+use Rattle.std.proofs.shelf.Tests.{and-from, and-left, and-right, lt-ltb, le-ltb, cond-true, cond-false}
 use Rattle.query.specs.declared.node.Node.{Node}
 use Rattle.query.specs.declared.node.Role.{Role}
-use Rattle.query.specs.declared.node.Role.the-variants.{Shape}
 use Rattle.query.specs.declared.node.Stage.{Stage}
 use Rattle.query.specs.Rules.{record-right, part-role}
-use Rattle.query.specs.Stands.{at, and-then, ends, end-at, is-at, is-query}
+use Rattle.query.specs.Stands.{at, and-then, ends, end-at}
 
 module _ (s : Stage) (ns : List Node) (r : Role) (i : ℕ) where
   -- no level is left, or no record
@@ -58,14 +57,3 @@ module _ (step : ℕ → Option ℕ) where
   pub ends-all : (k i : ℕ) → k ≡ 0 → Some i ≡ ends step k i
   ends-all zero i e = refl
   ends-all (suc k) i e = absurd (omega arith)
-
--- the answers of the check
-module _ (s : Stage) (ns : List Node) where
-  pub query-many : 64 < length ns → false ≡ is-query s ns
-  unfolding is-query
-  query-many l = sym (and-left (leb (length ns) 64) _ (lt-leb (length ns) 64 l))
-
-  pub query-by-end : (o : Option ℕ) → length ns ≤ 64 → o ≡ end-at s 16 ns Shape 0 → is-at o (length ns) ≡ is-query s ns
-  unfolding is-query
-  query-by-end o l e =
-      ap (λ (x : Option ℕ). is-at x (length ns)) e ∙ ap (λ (t : Bool). t && is-at (end-at s 16 ns Shape 0) (length ns)) (sym (le-leb (length ns) 64 l))

@@ -1,14 +1,18 @@
 //! Queries as records in a sheet, and the check that records are a query.
 
+ghost use lib.Dec.{leb};
+ghost use lib.ListN.{length};
+ghost use Prim.Native.Nat.{_+_};
+ghost use mathlib.Core.Bool.{_&&_};
 ghost use mathlib.Core.Path.{_≡_};
 ghost use Rattle.query.specs.Kinds.{kind-number as kindNumber};
 ghost use Rattle.query.specs.Rules.{allows, Are-query as AreQuery};
 ghost use Rattle.query.specs.Rules.{part-role as partRole, parts-right as partsRight, number-right as numberRight, record-right as recordRight};
 ghost use Rattle.query.specs.Laws.{Stands, Reads-back as ReadsBack, Equal-but-for-words as EqualButForWords};
 ghost use Rattle.query.specs.Stands.{blank};
-ghost use Rattle.query.specs.Stands.{end-at as endAt, is-query as isQuery};
+ghost use Rattle.query.specs.Stands.{end-at as endAt, is-at as isAt, is-query as isQuery};
 ghost use Rattle.std.specs.Orderings.{Decides};
-ghost use Rattle.query.specs.declared.node.Stage.the-variants.{Read, Bound};
+ghost use Rattle.query.specs.declared.node.Role.the-variants.{Shape};
 
 mod node;
 
@@ -82,14 +86,20 @@ impl Node {
         }
     }
 
+    /// Where the record's word ends in the text.
+    pub fn word_end(self) -> usize
+        ensures { λ r. ⌜ r ≡ self .place + self .length ⌝ }
+    {
+        self.place as usize + self.length as usize
+    }
+
     // Whether the number is one that the kind takes at this stage.
     fn number_right(self, stage: Stage) -> bool
         ensures { λ r. ⌜ r ≡ numberRight stage (self .kind) (self .number) (self .place) (self .length) ⌝ }
     {
         match self.kind {
             Kind::Symbol => match stage {
-                Stage::Read(text) => self.number == 255
-                    && self.place as usize + self.length as usize <= text,
+                Stage::Read(text) => self.number == 255 && self.word_end() <= text,
                 Stage::Bound(symbols) => self.number < symbols,
             },
             Kind::In => self.number > 0,
@@ -125,10 +135,9 @@ fn tree_end(records: &[Node], i: usize, role: Role, stage: Stage, levels: u8) ->
     Some(next)
 }
 
-/// Whether the records are a query that has come to this stage.
-pub fn is_query(records: &[Node], stage: Stage) -> bool
-    ensures answer { λ r. ⌜ r ≡ isQuery stage (now (records .entry)) ⌝ }
-    ensures exact { λ r. ⌜ Decides r (AreQuery stage (now (records .entry))) ⌝ }
+// Whether there are at most 64 records, and a query of at most 16 levels takes up all of them.
+fn takes_all(records: &[Node], stage: Stage) -> bool
+    ensures { λ r. ⌜ r ≡ (leb (length (now (records .entry))) 64 && isAt (endAt stage 16 (now (records .entry)) Shape 0) (length (now (records .entry)))) ⌝ }
 {
     if records.len() > 64 {
         return false;
@@ -137,6 +146,14 @@ pub fn is_query(records: &[Node], stage: Stage) -> bool
         Some(next) => next == records.len(),
         None => false,
     }
+}
+
+/// Whether the records are a query that has come to this stage.
+pub fn is_query(records: &[Node], stage: Stage) -> bool
+    ensures answer { λ r. ⌜ r ≡ isQuery stage (now (records .entry)) ⌝ }
+    ensures exact { λ r. ⌜ Decides r (AreQuery stage (now (records .entry))) ⌝ }
+{
+    takes_all(records, stage)
 }
 
 /// A query is given back by its records, so no two queries have the same.
@@ -153,3 +170,6 @@ pub fn records_stand()
 pub fn equal_but_for_words()
     ensures { λ _. ⌜ EqualButForWords ⌝ }
 {}
+
+#[cfg(test)]
+mod tests;

@@ -1,3 +1,4 @@
 pub mod Ranges
 pub mod Listing
 pub mod Plain
+pub mod Steps
