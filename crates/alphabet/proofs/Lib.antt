@@ -1,0 +1,4 @@
+pub mod Beginning
+pub mod Carried
+pub mod Distinct
+pub mod Finding

@@ -1,0 +1,6 @@
+pub mod Composed
+pub mod Longest
+pub mod Rows
+pub mod Runs
+pub mod Sheets
+pub mod Tables

@@ -1,0 +1,5 @@
+use Rattle.book.proofs.Longest.{longest}
+use Rattle.book.proofs.run_is_longest.Needs as need
+
+pub returns : need.returns
+returns c = longest

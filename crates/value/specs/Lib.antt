@@ -1,0 +1,5 @@
+pub mod Made
+pub mod Prices
+pub mod Readings
+pub mod Refusals
+pub mod Steps
