@@ -1,11 +1,13 @@
 use mathlib.Core.Path.{sym, _∙_}
 use native.Mathlib.Omega.{arith}
 use Rattle.std.proofs.shelf.Tests.{le-ltb}
-use Rattle.word.proofs.Bits.{has-test, has-past}
+use Rattle.word.specs.Words.{has}
+use Rattle.word.proofs.Bits.{has-past}
 use Rattle.word.proofs.carries.Needs as need
 
 pub returns-then-symbol-lt32 : need.returns-then-symbol-lt32
-returns-then-symbol-lt32 c = has-test (c .args .word) (c .args .symbol)
+unfolding has
+returns-then-symbol-lt32 c = c .bit .ensures
 
 pub returns-else-symbol-lt32 : need.returns-else-symbol-lt32
 returns-else-symbol-lt32 c =
