@@ -1,7 +1,7 @@
 -- Distinct words: each is found where it stands.
 use mathlib.Core.Path.{_≡_, refl, sym, ap, _∙_}
 use mathlib.Core.Bool.{Bool, true, false, not, cond, _&&_, _||_}
-use mathlib.Core.List.{List, [], _∷_}
+use mathlib.Core.List.{List, [], _∷_, _++_}
 use mathlib.Core.Logic.{⊎-elim}
 use Prim.Native.Nat.{ℕ, zero, suc, _+_, _<_, _≤_}
 use native.Mathlib.Nat.{add-zero}
@@ -12,7 +12,7 @@ use Rattle.std.specs.shelf.Text.{sameBytes}
 use Rattle.std.specs.declared.option.Option.{Option}
 use Rattle.std.specs.declared.option.Option.the-variants.{Some, None}
 use Rattle.std.proofs.shelf.Equals.{sameBytes-decides}
-use Rattle.std.proofs.shelf.Tests.{both-ways, and-parts, not-true, or-left, or-right, cases-bool, cond-true, cond-false, lt-ltb, le-ltb, cases-lt}
+use Rattle.std.proofs.shelf.Tests.{both-ways, and-parts, and-from, not-true, not-from-false, or-left, or-right, or-parts, or-from, cases-bool, cond-true, cond-false, lt-ltb, le-ltb, cases-lt}
 use Rattle.alphabet.specs.Names.{is-among, all-distinct, index-from, index-of, name-at}
 
 -- a word that stands in the list is among its words
@@ -21,8 +21,29 @@ among-at [] j word h e = absurd (omega arith)
 among-at (x ∷ xs) zero word h e = or-left (sameBytes x word) (is-among xs word) (sameBytes-decides x word .1 e)
 among-at (x ∷ xs) (suc j) word h e = or-right (sameBytes x word) (is-among xs word) (among-at xs j word (omega arith) e)
 
+-- one word more is apart from the others
+same-sym : (x y : List ℕ) → sameBytes x y ≡ false → sameBytes y x ≡ false
+same-sym x y f =
+    ⊎-elim (λ t. absurd (both-ways (sameBytes x y) f (sameBytes-decides x y .1 (sym (sameBytes-decides y x .0 t))))) (λ g. g)
+    (cases-bool (sameBytes y x))
+
+among-push : (xs : List (List ℕ)) (y word : List ℕ) → is-among xs word ≡ false → sameBytes y word ≡ false → is-among (xs ++ y ∷ []) word ≡ false
+among-push [] y word f g = or-from (sameBytes y word) false g refl
+among-push (x ∷ xs) y word f g =
+    let parts = or-parts (sameBytes x word) (is-among xs word) f in
+    or-from (sameBytes x word) (is-among (xs ++ y ∷ []) word) (parts .0) (among-push xs y word (parts .1) g)
+
+pub distinct-push : (xs : List (List ℕ)) (y : List ℕ) → all-distinct xs ≡ true → is-among xs y ≡ false → all-distinct (xs ++ y ∷ []) ≡ true
+distinct-push [] y d f = refl
+distinct-push (x ∷ xs) y d f =
+    let apart = or-parts (sameBytes x y) (is-among xs y) f in
+    let parts = and-parts (not (is-among xs x)) (all-distinct xs) d in
+    and-from (not (is-among (xs ++ y ∷ []) x)) (all-distinct (xs ++ y ∷ []))
+    (not-from-false (is-among (xs ++ y ∷ []) x) (among-push xs y x (not-true (is-among xs x) (parts .0)) (same-sym x y (apart .0))))
+    (distinct-push xs y (parts .1) (apart .1))
+
 -- what stands at an index of distinct words is found there
-found-at : (k : ℕ) (xs : List (List ℕ)) (j : ℕ) (word : List ℕ) → all-distinct xs ≡ true → j < length xs → getD xs j [] ≡ word
+pub found-at : (k : ℕ) (xs : List (List ℕ)) (j : ℕ) (word : List ℕ) → all-distinct xs ≡ true → j < length xs → getD xs j [] ≡ word
     → index-from k xs word ≡ Some (k + j)
 found-at k [] j word d h e = absurd (omega arith)
 found-at k (x ∷ xs) zero word d h e =

@@ -6,6 +6,7 @@ use Prim.Native.Nat.{ℕ, min, _+_, _<_, _≤_}
 use native.Mathlib.Omega.{arith}
 use lib.Dec.{ltb}
 use lib.ListN.{length, getD, take, drop}
+use Rattle.std.specs.Options.{isSome}
 use Rattle.std.specs.Orderings.{Decides}
 use Rattle.std.specs.shelf.Text.{sameBytes}
 use Rattle.std.specs.declared.option.Option.{Option}
@@ -50,6 +51,16 @@ module _ {X : Type 0} (f : X → List ℕ) (xs : List X) (word : List ℕ) where
 
     pub among-passed : t ≡ false → is-among (map f (drop i xs)) word ≡ is-among (map f (drop (i + 1) xs)) word
     among-passed no′ = among-step ∙ ap (λ u. u || is-among (map f (drop (i + 1) xs)) word) no′
+
+-- a word has an index just where it is among the words
+pub some-among : (k : ℕ) (xs : List (List ℕ)) (word : List ℕ) → isSome (index-from k xs word) ≡ is-among xs word
+some-among k [] word = refl
+some-among k (x ∷ xs) word =
+    let rest = some-among (k + 1) xs word in
+    elim (sameBytes x word) as (λ t. isSome (cond t (Some k) (index-from (k + 1) xs word)) ≡ (t || is-among xs word)) [
+      | true ↦ refl
+      | false ↦ rest
+    ]
 
 -- the words of the first n
 module _ {X : Type 0} (f : X → List ℕ) (xs : List X) (n : ℕ) (h : n ≤ length xs) where

@@ -1,4 +1,10 @@
 pub mod Beginning
 pub mod Carried
 pub mod Distinct
+pub mod Fields
 pub mod Finding
+pub mod Keeping
+pub mod Lettering
+pub mod Numbers
+pub mod Reading
+pub mod Telling

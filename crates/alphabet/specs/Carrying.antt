@@ -1,7 +1,7 @@
 -- Which symbols of an alphabet a step carries. Assumes nothing.
 use Prim.Native.Nat.{ℕ}
 use mathlib.Core.Bool.{Bool, true, not, _&&_}
-use mathlib.Core.List.{List, [], _∷_}
+use mathlib.Core.List.{List}
 use lib.IntN.{ℤ, pos, negℤ}
 use lib.ListN.{getD, length}
 use lib.Signed.{leZ}
@@ -29,12 +29,11 @@ unbounded = record { low = pos 0; high = pos 0; first = Anyvalue; last = Anyvalu
 abbrev pub step-word : List Bounds → ℤ → Bool → Bool → ℕ
 step-word rows rank first last = word-of (λ j. carries (getD rows j unbounded) rank first last) (length rows)
 
--- the ends of bounds are ordered, and lie within ±1,000,000,000,000
+-- the furthest from 0 that an end of bounds may lie
+abbrev pub furthest : ℤ
+furthest = pos 1_000_000_000_000
+
+-- the ends of bounds are ordered, and lie within ± the furthest
 abbrev pub bounds-right : Bounds → Bool
 bounds-right x =
-    leZ (x .low) (x .high) && (leZ (negℤ (pos 1_000_000_000_000)) (x .low) && leZ (x .high) (pos 1_000_000_000_000))
-
--- so it is of each
-abbrev pub all-bounds-right : List Bounds → Bool
-all-bounds-right [] = true
-all-bounds-right (x ∷ xs) = bounds-right x && all-bounds-right xs
+    leZ (x .low) (x .high) && (leZ (negℤ furthest) (x .low) && leZ (x .high) furthest)

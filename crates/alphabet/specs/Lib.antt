@@ -1,6 +1,11 @@
 pub mod Carrying
 pub mod CaseAlphabet
+pub mod Every
 pub mod Laws
 pub mod Names
+pub mod Refusals
+pub mod RightAlphabets
+pub mod RightSheets
+pub mod Sheets
 pub mod Spelling
 pub mod Symbols

@@ -8,15 +8,11 @@ use lib.ListN.{length, getD}
 use Rattle.std.specs.declared.option.Option.{Option}
 use Rattle.std.specs.declared.option.Option.the-variants.{Some, None}
 use Rattle.std.specs.shelf.Text.{sameBytes}
+use Rattle.alphabet.specs.Every.{every}
 
 -- A to Z, and a to z
 abbrev pub is-letter : ℕ → Bool
 is-letter b = (leb 65 b && leb b 90) || (leb 97 b && leb b 122)
-
--- every byte is a letter
-abbrev pub all-letters : List ℕ → Bool
-all-letters [] = true
-all-letters (b ∷ bs) = is-letter b && all-letters bs
 
 -- whether the word is one of these
 abbrev pub is-among : List (List ℕ) → List ℕ → Bool
@@ -31,12 +27,7 @@ operator-words =
 
 -- a word may name a symbol when it has 1 to 16 bytes, all of them letters, and is no operator word
 abbrev pub may-name : List ℕ → Bool
-may-name word = (leb 1 (length word) && leb (length word) 16) && (all-letters word && not (is-among operator-words word))
-
--- each of the words may name a symbol
-abbrev pub all-may-name : List (List ℕ) → Bool
-all-may-name [] = true
-all-may-name (x ∷ xs) = may-name x && all-may-name xs
+may-name word = (leb 1 (length word) && leb (length word) 16) && (every is-letter word && not (is-among operator-words word))
 
 -- no word comes twice
 abbrev pub all-distinct : List (List ℕ) → Bool

@@ -16,3 +16,13 @@ pub struct Bounds {
     pub first: Asked,
     pub last: Asked,
 }
+
+impl Bounds {
+    // A step of rank 0, whatever its values are.
+    pub(crate) const LEVEL: Bounds = Bounds {
+        low: 0,
+        high: 0,
+        first: Asked::Anyvalue,
+        last: Asked::Anyvalue,
+    };
+}

@@ -6,35 +6,28 @@ ghost use Rattle.alphabet.specs.Symbols.{names-of as namesOf, bounds-of as bou
 use crate::Alphabet;
 use crate::Asked;
 use crate::Bounds;
-use crate::Name;
-
-const ANYVALUE: Bounds = Bounds {
-    low: 0,
-    high: 0,
-    first: Asked::Anyvalue,
-    last: Asked::Anyvalue,
-};
+use crate::name::Name;
 
 const BOUNDS: [Bounds; 8] = [
     Bounds {
         low: 5,
         high: 19,
-        ..ANYVALUE
+        ..Bounds::LEVEL
     },
     Bounds {
         low: 20,
         high: 100,
-        ..ANYVALUE
+        ..Bounds::LEVEL
     },
     Bounds {
         low: -19,
         high: -5,
-        ..ANYVALUE
+        ..Bounds::LEVEL
     },
     Bounds {
         low: -100,
         high: -19,
-        ..ANYVALUE
+        ..Bounds::LEVEL
     },
     Bounds {
         low: 0,
@@ -51,7 +44,7 @@ const BOUNDS: [Bounds; 8] = [
     Bounds {
         low: -4,
         high: 4,
-        ..ANYVALUE
+        ..Bounds::LEVEL
     },
     Bounds {
         low: 0,
@@ -76,7 +69,7 @@ impl Alphabet {
         names[5] = Name::of(b"disappears");
         names[6] = Name::of(b"stable");
         names[7] = Name::of(b"zero");
-        let mut rows = [ANYVALUE; 32];
+        let mut rows = [Bounds::LEVEL; 32];
         rows[0..8].copy_from_slice(&BOUNDS);
         Alphabet {
             count: 8,

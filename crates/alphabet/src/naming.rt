@@ -6,12 +6,12 @@ ghost use mathlib.Core.Path.{_≡_};
 ghost use denote.Ref.{now as behind};
 ghost use lib.ListN.{length, take};
 ghost use Rattle.std.specs.Options.{mapped};
-ghost use Rattle.alphabet.specs.Laws.{Found-where-named as FoundWhereNamed};
+ghost use Rattle.alphabet.specs.Laws.{Found-where-named as FoundWhereNamed, All-right as AllRight};
 ghost use Rattle.alphabet.specs.Names.{is-among as isAmong, operator-words as operatorWords, index-of as indexOf, name-at as nameAt};
-ghost use Rattle.alphabet.specs.Spelling.{spelling};
+ghost use Rattle.alphabet.specs.Spelling.{spelling, spellings};
 ghost use Rattle.alphabet.specs.Symbols.{names-of as namesOf, bounds-of as boundsOf};
 use crate::Alphabet;
-use crate::Name;
+use crate::name::Name;
 
 const OPERATORS: [&[u8]; 12] = [
     b"any",
@@ -68,6 +68,19 @@ impl Name {
     }
 }
 
+// The index of the word among the names.
+pub(crate) fn index_of(names: &[Name], word: &[u8]) -> Option<u8>
+    requires { ⌜ length (now names) ≤ 32 ⌝ }
+    ensures { λ r. ⌜ r ≡ indexOf (spellings (now (names .entry))) (now (word .entry)) ⌝ }
+{
+    for (j, name) in names.iter().enumerate() {
+        if name.spelled() == word {
+            return Some(j as u8);
+        }
+    }
+    None
+}
+
 impl Alphabet {
     /// How many symbols there are, 1 to 32.
     pub fn symbols(&self) -> u8
@@ -82,13 +95,7 @@ impl Alphabet {
     pub fn find(&self, name: &[u8]) -> Option<u8>
         ensures { λ r. ⌜ r ≡ indexOf (namesOf (now (self .entry))) (now (name .entry)) ⌝ }
     {
-        let names = &self.names[0..self.count as usize];
-        for (j, known) in names.iter().enumerate() {
-            if known.spelled() == name {
-                return Some(j as u8);
-            }
-        }
-        None
+        index_of(&self.names[0..self.count as usize], name)
     }
 
     /// The letters of the symbol's name.
@@ -106,4 +113,9 @@ impl Alphabet {
 /// A word is found at a symbol just where it is that symbol's name.
 pub fn found_where_named()
     ensures { λ _. ⌜ FoundWhereNamed ⌝ }
+{}
+
+/// Every alphabet that exists has 1 to 32 symbols, each with a name of its own and with bounds in order and in range.
+pub fn all_right()
+    ensures { λ _. ⌜ AllRight ⌝ }
 {}

@@ -1,5 +1,6 @@
 pub mod Composed
 pub mod Longest
+pub mod Narrow
 pub mod Rows
 pub mod Runs
 pub mod Sheets

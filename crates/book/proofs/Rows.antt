@@ -2,14 +2,14 @@
 use mathlib.Core.Path.{_≡_, refl, sym, ap, subst, subst₂, _∙_}
 use mathlib.Core.Bool.{Bool, true}
 use mathlib.Core.List.{List, [], _∷_}
-use mathlib.Core.Logic.{_⊎_, inl, inr, _≢_}
+use mathlib.Core.Logic.{_≢_}
 use Prim.Native.Nat.{ℕ, _+_, _-_, _≤_, _<_}
 use native.Mathlib.Omega.{arith}
 use lib.ListN.{length, getD, set, take, drop}
 use Rattle.std.proofs.shelf.Lists.{drop-more, drop-set, drop-all, take-all, length-drop}
 use Rattle.book.specs.declared.run.Run.{Run}
 use Rattle.book.specs.Runs.{past, left, formed, Pushed, Popped}
-use Rattle.book.proofs.Runs.{opened, closed, formed-less, few, left-in, left-before, longer, begun, shorter, push-on, push-new, pop-off, pop-on, pop-gone}
+use Rattle.book.proofs.Runs.{opened, closed, formed-less, few, left-in, left-before, longer, begun, shorter, push-on, push-new, pop-on, pop-gone}
 
 abbrev pub blank : Run
 blank = record { start = 0; count = 0 }

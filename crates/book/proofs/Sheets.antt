@@ -1,14 +1,13 @@
 -- What a row of words and how many of them are held say of the list that they stand for.
-use mathlib.Core.Path.{_≡_, refl, sym, ap, ap₂, subst, _∙_}
-use mathlib.Core.Bool.{Bool, true, false, cond, _&&_}
+use mathlib.Core.Path.{_≡_, sym, ap, ap₂, _∙_}
+use mathlib.Core.Bool.{true, false, _&&_}
 use mathlib.Core.List.{List, [], _∷_, _++_}
-use mathlib.Core.Logic.{⊎-elim, _≢_}
-use Prim.Native.Nat.{ℕ, _+_, _-_, _^_, _≤_, _<_}
+use Prim.Native.Nat.{ℕ, _+_, _-_, _≤_, _<_}
 use native.Mathlib.Omega.{arith}
 use lib.Dec.{ltb}
-use lib.ListN.{length, getD, take, set, replicate}
-use Rattle.std.proofs.shelf.Lists.{length-take, length-take-le, length-replicate, take-more-set, take-take, getD-take, getD-set-same, getD-set-other, getD-replicate, getD-past}
-use Rattle.std.proofs.shelf.Tests.{lt-ltb, le-ltb, cases-eq, cases-lt, cond-true}
+use lib.ListN.{length, getD, take, set}
+use Rattle.std.proofs.shelf.Lists.{length-take, length-take-le, take-more-set, take-take, getD-take}
+use Rattle.std.proofs.shelf.Tests.{lt-ltb, le-ltb, cond-true}
 use Rattle.word.specs.Words.{has}
 use Rattle.book.specs.Words.{roomy, added, filled, dropped, marked}
 
@@ -40,21 +39,3 @@ added-is n xs w within room =
 
 pub short-take : (n : ℕ) (xs : List ℕ) → n ≤ 255 → length (take n xs) ≤ 255
 short-take n xs short = simp length-take (omega arith)
-
--- every word of the row is below 2 ^ 32, and stays so
-abbrev Narrow : List ℕ → Type 0
-Narrow xs = (t : ℕ) → getD xs t 0 < 2 ^ 32
-
-pub narrow-set : (xs : List ℕ) (n w : ℕ) → n < length xs → w < 2 ^ 32 → Narrow xs → Narrow (set xs n w)
-narrow-set xs n w within small narrow t =
-    ⊎-elim (λ (same : t ≡ n). rw (same, getD-set-same) small) (λ (other : t ≢ n). rw getD-set-other (narrow t)) (cases-eq t n)
-
-pub narrow-none : (n : ℕ) → Narrow (replicate n 0)
-narrow-none n t =
-    ⊎-elim (λ (inside : t < n). rw getD-replicate (omega arith))
-    (λ (past : n ≤ t). let long : length {A = ℕ} (replicate n 0) ≤ t = simp length-replicate past in rw getD-past (omega arith)) (cases-lt t n)
-
-pub narrow-take : (n : ℕ) (xs : List ℕ) → Narrow xs → Narrow (take n xs)
-narrow-take n xs narrow t =
-    ⊎-elim (λ (inside : t < n). rw getD-take (narrow t))
-    (λ (past : n ≤ t). let long : length (take n xs) ≤ t = simp length-take (omega arith) in rw getD-past (omega arith)) (cases-lt t n)

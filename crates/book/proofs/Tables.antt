@@ -1,19 +1,18 @@
 -- The words that rows of runs stand for.
-use mathlib.Core.Path.{_≡_, refl, sym, ap, ap₂, subst, _∙_}
-use mathlib.Core.Bool.{Bool, true, false, _&&_, _||_}
+use mathlib.Core.Path.{_≡_, refl, sym, ap, ap₂, _∙_}
+use mathlib.Core.Bool.{true, _&&_}
 use mathlib.Core.List.{List, [], _∷_, _++_, map}
 use mathlib.Core.Logic.{⊎-elim, _≢_}
 use Prim.Native.Nat.{ℕ, zero, suc, _+_, _-_, _^_, _≤_, _<_}
 use native.Mathlib.Omega.{arith}
 use native.Mathlib.Nat.{add-zero}
-use lib.Dec.{ltb, eqb}
+use lib.Dec.{ltb}
 use lib.ListN.{length, getD, set, take, replicate}
-use Rattle.std.specs.Iters.{counting}
 use Rattle.std.proofs.shelf.Counted.{length-map-counting, getD-map-counting, take-map-counting, map-counting-more, fill-by-all}
 use Rattle.std.proofs.shelf.Lists.{length-map, map-set, getD-map, getD-set-same, getD-set-other, getD-past}
-use Rattle.std.proofs.shelf.Tests.{cases-bool, cases-eq, cases-lt, lt-ltb, le-ltb, eq-eqb, cond-true}
+use Rattle.std.proofs.shelf.Tests.{cases-bool, cases-eq, cases-lt, lt-ltb, le-ltb, cond-true}
 use Rattle.std.proofs.shelf.Ways.{tells}
-use Rattle.word.specs.Words.{has, word-of}
+use Rattle.word.specs.Words.{has}
 use Rattle.word.proofs.Bits.{has-word, word-below, has-past}
 use Rattle.book.specs.declared.row.Row.{Row}
 use Rattle.book.specs.declared.run.Run.{Run}

@@ -60,3 +60,6 @@ pub trait RunBook {
 pub fn run_is_longest()
     ensures { λ _. ⌜ Run-longest ⌝ }
 {}
+
+#[cfg(test)]
+mod tests;

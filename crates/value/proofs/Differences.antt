@@ -4,7 +4,7 @@ use mathlib.Core.Bool.{Bool, true, false, not, cond, _&&_, Bool·beq}
 use Prim.Native.Nat.{ℕ, zero, suc, _+_, _-_, _*_, _^_}
 use lib.Dec.{T, ltb}
 use lib.IntN.{pos}
-use lib.Ieee.{Float, Format, nan, inf, fin, binary32, prec, emax, low, odd, units, round, sum, neg, add, sub, lt, le, eq, up, down, isNan, ofBits}
+use lib.Ieee.{Float, Format, nan, inf, fin, binary32, prec, emax, low, odd, units, round, sum, sub, le, up, down, isNan, ofBits}
 use lib.Ieee.Fits.{round-is}
 use Rattle.std.proofs.shelf.Tests.{false≢true}
 use Rattle.value.specs.Readings.{reading-range}

@@ -1,5 +1,3 @@
-use mathlib.Core.Path.{_≡_}
-use lib.ListN.{length}
 use Rattle.book.specs.Runs.{Popped}
 use Rattle.book.proofs.Tables.{Done}
 use Rattle.book.proofs.table.pop_all.Given as given

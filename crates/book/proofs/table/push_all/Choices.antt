@@ -1,5 +1,3 @@
-use mathlib.Core.Path.{_≡_}
-use lib.ListN.{length}
 use Rattle.word.specs.Words.{has}
 use Rattle.book.specs.Runs.{Pushed}
 use Rattle.book.proofs.Tables.{Done}

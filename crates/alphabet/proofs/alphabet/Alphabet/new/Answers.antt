@@ -3,12 +3,13 @@ use mathlib.Core.List.{List, [], _∷_}
 use mathlib.Core.Path.{_≡_, refl, ap, _∙_}
 use native.Mathlib.Omega.{arith}
 use Rattle.alphabet.specs.CaseAlphabet.{case-names, case-bounds}
-use Rattle.alphabet.specs.Carrying.{all-bounds-right}
-use Rattle.alphabet.specs.Names.{all-may-name, all-distinct, operator-words}
+use Rattle.alphabet.specs.Carrying.{bounds-right}
+use Rattle.alphabet.specs.Every.{every}
+use Rattle.alphabet.specs.Names.{may-name, all-distinct, operator-words}
 use Rattle.alphabet.proofs.Beginning.{begins, begins-length}
 use Rattle.alphabet.proofs.alphabet.Alphabet.new.Needs as need
 
-case-names-right : all-may-name case-names ≡ true
+case-names-right : every may-name case-names ≡ true
 unfolding operator-words
 case-names-right = refl
 
@@ -25,8 +26,8 @@ ghost-result c =
       (
         (omega arith, omega arith),
         (
-          ap all-bounds-right (begins _ _ case-bounds 8 rows refl),
-          (ap all-may-name names ∙ case-names-right, (ap all-distinct names, tt)),
+          ap (every bounds-right) (begins _ _ case-bounds 8 rows refl),
+          (ap (every may-name) names ∙ case-names-right, (ap all-distinct names, tt)),
         ),
       ),
     )

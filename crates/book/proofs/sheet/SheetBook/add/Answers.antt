@@ -1,6 +1,6 @@
 use borrow.Author.Needs.{needs}
-use native.Mathlib.Omega.{arith}
-use Rattle.book.proofs.Sheets.{roomy-is, added-is, narrow-set}
+use Rattle.book.proofs.Narrow.{narrow-set}
+use Rattle.book.proofs.Sheets.{roomy-is, added-is}
 use Rattle.book.proofs.sheet.SheetBook.add.Needs as need
 
 pub ghost-self : need.ghost-self

@@ -1,4 +1,5 @@
-use Rattle.book.proofs.Sheets.{short-take, narrow-take}
+use Rattle.book.proofs.Narrow.{narrow-take}
+use Rattle.book.proofs.Sheets.{short-take}
 use Rattle.book.proofs.sheet.SheetBook.the-impl.Needs as need
 
 pub short-law : need.short-law

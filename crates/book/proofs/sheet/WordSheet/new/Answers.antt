@@ -1,5 +1,5 @@
 use borrow.Author.Needs.{needs}
-use Rattle.book.proofs.Sheets.{narrow-none}
+use Rattle.book.proofs.Narrow.{narrow-none}
 use Rattle.book.proofs.sheet.WordSheet.new.Needs as need
 
 pub ghost-result : need.ghost-result

@@ -1,6 +1,5 @@
 use borrow.Author.Needs.{needs}
 use Prim.Native.Nat.{_-_}
-use native.Mathlib.Omega.{arith}
 use Rattle.book.proofs.Tables.{popped-formed, popped-words, filled-is}
 use Rattle.book.proofs.table.TableBook.drop_last.Needs as need
 

@@ -1,0 +1,4 @@
+pub mod Store
+pub mod Steps
+pub mod Padding
+pub mod Promised

@@ -1,0 +1,4 @@
+pub mod Seen
+pub mod Reading
+pub mod Promise
+pub mod Faults
