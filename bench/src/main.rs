@@ -8,6 +8,8 @@ mod independent;
 mod proved;
 mod random;
 mod shape;
+mod timing;
+mod twin;
 
 use independent::Matcher;
 use random::Random;
@@ -87,8 +89,9 @@ fn main() {
     match args.get(1).map(String::as_str) {
         Some("compare") => compare(number(2, 2000), number(3, 1995)),
         Some("list") => list(),
+        Some("time") => timing::time(),
         _ => {
-            eprintln!("usage: bench compare [CASES [SEED]] | bench list");
+            eprintln!("usage: bench compare [CASES [SEED]] | bench time | bench list");
             exit(2);
         }
     }

@@ -1,7 +1,13 @@
 //! The proved library, by the functions of crates/capi.
 
+#[repr(C)]
+struct Answer {
+    refused: u32,
+    value: u32,
+}
+
 extern "C" {
-    fn maudrike_bind(text: *const u8, text_len: usize) -> u64;
+    fn maudrike_bind(text: *const u8, text_len: usize) -> Answer;
     fn maudrike_list(
         text: *const u8,
         text_len: usize,
@@ -9,18 +15,18 @@ extern "C" {
         words_len: usize,
         out: *mut u8,
         out_len: usize,
-    ) -> u64;
-    fn maudrike_fit(text: *const u8, text_len: usize, words: *const u8, words_len: usize, a: u32, b: u32) -> u64;
+    ) -> Answer;
+    fn maudrike_fit(text: *const u8, text_len: usize, words: *const u8, words_len: usize, a: u32, b: u32) -> Answer;
 }
 
 /// A refusal: its number, and the value returned with it.
 #[derive(Clone, Copy, Debug, PartialEq, Eq)]
 pub struct Refusal(pub u32, pub u32);
 
-fn answer(code: u64) -> Result<usize, Refusal> {
-    match (code >> 32) as u32 {
-        0 => Ok(code as u32 as usize),
-        number => Err(Refusal(number, code as u32)),
+fn answer(answer: Answer) -> Result<usize, Refusal> {
+    match answer.refused {
+        0 => Ok(answer.value as usize),
+        number => Err(Refusal(number, answer.value)),
     }
 }
 

@@ -1,8 +1,8 @@
 -- What the fields of an alphabet keep, in plain words.
-use mathlib.Core.Path.{_≡_, refl, sym, ap, _∙_}
-use mathlib.Core.Bool.{Bool, true, not, _&&_}
+use mathlib.Core.Path.{_≡_, refl, sym, _∙_}
+use mathlib.Core.Bool.{true, not, _&&_}
 use mathlib.Core.List.{List, []}
-use Prim.Native.Nat.{ℕ, _+_, _<_, _≤_}
+use Prim.Native.Nat.{ℕ, _+_, _<_}
 use native.Mathlib.Omega.{arith}
 use lib.Dec.{leb}
 use lib.IntN.{negℤ}
@@ -11,17 +11,15 @@ use lib.Signed.{leZ}
 use Rattle.std.specs.Orderings.{Decides}
 use Rattle.std.specs.declared.option.Option.{Option}
 use Rattle.std.specs.declared.option.Option.the-variants.{Some}
-use Rattle.std.specs.shelf.Lists.{All}
 use Rattle.std.proofs.shelf.Lists.{length-take-le}
 use Rattle.std.proofs.shelf.Tests.{and-from, and-parts, leb-true, le-leb}
 use Rattle.std.proofs.shelf.Ways.{decides-by-and}
-use Rattle.alphabet.specs.declared.alphabet.Alphabet.{Alphabet}
 use Rattle.alphabet.specs.declared.bounds.Bounds.{Bounds}
 use Rattle.alphabet.specs.Carrying.{furthest, bounds-right}
 use Rattle.alphabet.specs.Every.{every}
 use Rattle.alphabet.specs.Laws.{All-right}
 use Rattle.alphabet.specs.Names.{is-letter, is-among, operator-words, may-name, all-distinct}
-use Rattle.alphabet.specs.RightAlphabets.{Names, Bounded, Right-alphabet}
+use Rattle.alphabet.specs.RightAlphabets.{Names, Bounded}
 use Rattle.alphabet.specs.Spelling.{spelling}
 use Rattle.alphabet.specs.Symbols.{names-of, bounds-of}
 use Rattle.alphabet.proofs.Distinct.{found-at}

@@ -2,7 +2,6 @@
 use mathlib.Core.Path.{_≡_, refl, sym, ap, ap₂, _∙_}
 use mathlib.Core.Bool.{Bool, true, false, not, cond, _&&_}
 use mathlib.Core.List.{List, [], _∷_, _++_}
-use mathlib.Core.Logic.{⊎-elim}
 use Prim.Native.Nat.{ℕ, zero, suc, _+_, _-_, _<_, _≤_}
 use native.Mathlib.Nat.{add-zero, add-suc}
 use native.Mathlib.Numerals.{add-one}
@@ -14,9 +13,9 @@ use Rattle.std.specs.Options.{isSome}
 use Rattle.std.specs.Vec.{listOf}
 use Rattle.std.specs.declared.option.Option.{Option}
 use Rattle.std.specs.declared.option.Option.the-variants.{Some, None}
-use Rattle.std.specs.declared.result.Result.the-variants.{Ok, Err}
-use Rattle.std.proofs.shelf.Lists.{length-set, take-more-set, map-append, take-all}
-use Rattle.std.proofs.shelf.Tests.{cases-bool, cond-true, cond-false, and-from, and-parts, and-right, not-true, not-from-true, not-from-false, le-leb, both-ways}
+use Rattle.std.specs.declared.result.Result.the-variants.{Err}
+use Rattle.std.proofs.shelf.Lists.{length-set, take-more-set, map-append}
+use Rattle.std.proofs.shelf.Tests.{cond-true, cond-false, and-from, and-parts, and-right, not-true, not-from-true, not-from-false, le-leb, both-ways}
 use Rattle.alphabet.specs.declared.bounds.Asked.{Asked}
 use Rattle.alphabet.specs.declared.bounds.Bounds.{Bounds}
 use Rattle.alphabet.specs.declared.fault.SheetFault.{SheetFault}
@@ -26,7 +25,7 @@ use Rattle.alphabet.specs.Carrying.{bounds-right}
 use Rattle.alphabet.specs.Every.{every}
 use Rattle.alphabet.specs.Names.{is-letter, is-among, index-of, may-name, all-distinct, operator-words}
 use Rattle.alphabet.specs.RightSheets.{Laid-out}
-use Rattle.alphabet.specs.Sheets.{symbols-said, width-said, name-field, letters-of, is-space, well-formed, name-in, sheet-name, sheet-names, name-right, bounds-asking, asked-by, row-bounds, row-field, sheet-row, sheet-rows, symbol-fault, or-else, first-fault, unless, load-answer, layout-right, number-in}
+use Rattle.alphabet.specs.Sheets.{symbols-said, name-field, letters-of, is-space, well-formed, name-in, sheet-name, sheet-names, name-right, bounds-asking, asked-by, row-field, sheet-row, sheet-rows, symbol-fault, or-else, first-fault, unless, load-answer, layout-right, number-in}
 use Rattle.alphabet.specs.Spelling.{spelling, spellings}
 use Rattle.alphabet.proofs.Distinct.{distinct-push}
 use Rattle.alphabet.proofs.Fields.{length-name}

@@ -2,7 +2,7 @@
 use mathlib.Core.Path.{_≡_, refl, sym, ap, subst, _∙_}
 use mathlib.Core.Bool.{Bool, true, false, not, cond, _&&_, _||_}
 use mathlib.Core.List.{List, [], _∷_, _++_}
-use mathlib.Core.Logic.{_⊎_, inl, inr, ⊎-elim}
+use mathlib.Core.Logic.{_⊎_, ⊎-elim}
 use Prim.Native.Nat.{ℕ, zero, suc, _+_, _-_, _<_, _≤_}
 use native.Mathlib.Omega.{arith}
 use lib.Dec.{leb, eqb, T}
@@ -19,9 +19,9 @@ use Rattle.std.specs.shelf.Lists.{All}
 use Rattle.std.specs.shelf.Text.{sameBytes}
 use Rattle.std.proofs.shelf.Elements.{all-push}
 use Rattle.std.proofs.shelf.Equals.{sameBytes-decides}
-use Rattle.std.proofs.shelf.Lists.{drop-at, take-append-drop}
-use Rattle.std.proofs.shelf.Tests.{both-ways, cases-bool, cases-eq, cond-true, cond-false, and-from, and-parts, or-from, or-parts, or-left, or-right, or-cases, not-true, not-from-false, leb-true, le-leb, eqb-true, eq-eqb}
-use Rattle.std.proofs.shelf.Ways.{same-from-decides, decides-like, decides-and, decides-or, decides-by-and, decides-eqb, tells}
+use Rattle.std.proofs.shelf.Lists.{drop-at}
+use Rattle.std.proofs.shelf.Tests.{both-ways, cases-bool, cases-eq, cond-true, cond-false, and-from, and-parts, or-from, or-parts, not-true, not-from-false, leb-true, le-leb, eqb-true}
+use Rattle.std.proofs.shelf.Ways.{decides-and, decides-or, decides-by-and, tells}
 use Rattle.alphabet.specs.declared.bounds.Asked.{Asked}
 use Rattle.alphabet.specs.declared.bounds.Asked.the-variants.{Anyvalue, Zero, Nonzero}
 use Rattle.alphabet.specs.declared.bounds.Bounds.{Bounds}

@@ -9,7 +9,7 @@ use lib.ListN.{length, getD, take, set}
 use Rattle.std.proofs.shelf.Lists.{length-take, length-take-le, take-more-set, take-take, getD-take}
 use Rattle.std.proofs.shelf.Tests.{lt-ltb, le-ltb, cond-true}
 use Rattle.word.specs.Words.{has}
-use Rattle.book.specs.Words.{roomy, added, filled, dropped, marked}
+use Rattle.book.specs.Words.{roomy, added, droppable, dropped, marked}
 
 pub marked-past : (n : ℕ) (xs : List ℕ) (j t : ℕ) → n ≤ t → marked (take n xs) j t ≡ false
 marked-past n xs j t past =
@@ -19,8 +19,8 @@ module _ (n : ℕ) (xs : List ℕ) (within : n ≤ length xs) where
   pub roomy-is : n < 255 → true ≡ roomy (take n xs)
   roomy-is room = sym (lt-ltb (length (take n xs)) 255 (simp length-take-le room))
 
-  pub filled-is : 0 < n → true ≡ filled (take n xs)
-  filled-is some = sym (lt-ltb 0 (length (take n xs)) (simp length-take-le some))
+  pub droppable-is : 0 < n → true ≡ droppable (take n xs)
+  droppable-is some = sym (lt-ltb 0 (length (take n xs)) (simp length-take-le some))
 
   pub dropped-is : take (n - 1) xs ≡ dropped (take n xs)
   dropped-is =

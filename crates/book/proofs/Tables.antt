@@ -16,7 +16,7 @@ use Rattle.word.specs.Words.{has}
 use Rattle.word.proofs.Bits.{has-word, word-below, has-past}
 use Rattle.book.specs.declared.row.Row.{Row}
 use Rattle.book.specs.declared.run.Run.{Run}
-use Rattle.book.specs.Words.{roomy, added, filled, dropped, marked, run-from}
+use Rattle.book.specs.Words.{roomy, added, droppable, dropped, marked, run-from}
 use Rattle.book.specs.Runs.{left, carried, formed, Pushed, Popped}
 use Rattle.book.specs.Tables.{row-runs, runs-of, Formed, word-at, table-words}
 use Rattle.book.proofs.Composed.{word-of-same, word-of-has}
@@ -176,5 +176,5 @@ done-more R rows after k d row inside done here =
 pub roomy-is : (rows : List Row) (n : ℕ) → n < 255 → true ≡ roomy (table-words rows n)
 roomy-is rows n room = sym (lt-ltb (length (table-words rows n)) 255 (rw size-is room))
 
-pub filled-is : (rows : List Row) (n : ℕ) → 0 < n → true ≡ filled (table-words rows n)
-filled-is rows n some = sym (lt-ltb 0 (length (table-words rows n)) (rw size-is some))
+pub droppable-is : (rows : List Row) (n : ℕ) → 0 < n → true ≡ droppable (table-words rows n)
+droppable-is rows n some = sym (lt-ltb 0 (length (table-words rows n)) (rw size-is some))

@@ -19,16 +19,16 @@ left (run ∷ runs) step = cond (leb (run .start) step) (past run - step) (left 
 abbrev pub carried : List Run → ℕ → Bool
 carried runs step = ltb 0 (left runs step)
 
--- The runs of a symbol over n steps: none is empty, none goes past step n, and between each two is
--- a step that carries the symbol no more. So each is as long as can be.
+-- The runs of a symbol over n steps: none is empty, none goes past the last step, and a step lies
+-- between each two. So each is as long as can be.
 unfoldable pub formed : ℕ → List Run → Bool
 formed n [] = true
 formed n (run ∷ runs) = (ltb 0 (run .count) && leb (past run) n) && formed (run .start - 1) runs
 
--- over n steps and one more, of which it is said whether it carries the symbol
+-- the runs over n steps, and then over one step more, of which it is said whether it carries the symbol
 abbrev pub Pushed : ℕ → Bool → List Run → List Run → Type 0
 Pushed n said before after = (formed (n + 1) after ≡ true) × ((t : ℕ) → carried after t ≡ (carried before t || (said && eqb t n)))
 
--- over the first n steps alone
+-- the runs over n + 1 steps, and then over the first n of them
 abbrev pub Popped : ℕ → List Run → List Run → Type 0
 Popped n before after = (formed n after ≡ true) × ((t : ℕ) → carried after t ≡ (carried before t && ltb t n))

@@ -15,9 +15,9 @@ roomy words = ltb (length words) 255
 abbrev pub added : List ℕ → ℕ → List ℕ
 added words word = cond (roomy words) (words ++ word ∷ []) words
 
--- at least one word is held
-abbrev pub filled : List ℕ → Bool
-filled words = ltb 0 (length words)
+-- there is a word to take off
+abbrev pub droppable : List ℕ → Bool
+droppable words = ltb 0 (length words)
 
 -- the list without its last word
 abbrev pub dropped : List ℕ → List ℕ
@@ -36,12 +36,12 @@ run-front (word ∷ words) symbol = cond (has word symbol) (suc (run-front words
 abbrev pub run-from : List ℕ → ℕ → ℕ → ℕ
 run-from words symbol step = run-front (drop step words) symbol
 
--- there are words for the k steps from the given one on, and all have the symbol
-abbrev pub Carried : List ℕ → ℕ → ℕ → ℕ → Type 0
-Carried words symbol step k = (i : ℕ) → i < k → marked words symbol (step + i) ≡ true
+-- there are words for the k steps from the given step on, and all have the symbol
+abbrev pub All-marked : List ℕ → ℕ → ℕ → ℕ → Type 0
+All-marked words symbol step k = (i : ℕ) → i < k → marked words symbol (step + i) ≡ true
 
 -- so many have it, and never more: a run is the longest
 abbrev pub Run-longest : Type 0
 Run-longest =
-    (words : List ℕ) (symbol step : ℕ) → Carried words symbol step (run-from words symbol step)
-    × ((k : ℕ) → Carried words symbol step k → k ≤ run-from words symbol step)
+    (words : List ℕ) (symbol step : ℕ) → All-marked words symbol step (run-from words symbol step)
+    × ((k : ℕ) → All-marked words symbol step k → k ≤ run-from words symbol step)

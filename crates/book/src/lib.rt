@@ -4,7 +4,7 @@ ghost use mathlib.Core.Path.{_≡_};
 ghost use mathlib.Core.List.{List, []};
 ghost use Prim.Native.Nat.{ℕ, _^_, _≤_, _<_};
 ghost use lib.ListN.{length, getD};
-ghost use Rattle.book.specs.Words.{roomy, added, filled, dropped, marked, run-from, Run-longest};
+ghost use Rattle.book.specs.Words.{roomy, added, droppable, dropped, marked, run-from, Run-longest};
 
 mod row;
 mod run;
@@ -16,11 +16,13 @@ pub use sheet::WordSheet;
 pub use table::RunTable;
 pub use table::TableBook;
 
-/// A run book means a list of words. Code over any book knows what stands here and nothing else.
+/// A run book means a list of words, at most 255 of them and each of 32 bits. Code over any book
+/// knows what stands here and nothing else.
 ///
 /// Any symbol and any step may be asked for. `mark` and `run` leave the list as it is, and take
 /// the book to change all the same, since a book may keep an account of what it is asked.
 pub trait RunBook {
+    /// The list that the book means.
     ghost words: { Self → List ℕ };
 
     law short: { (b : Self) → length (words b) ≤ 255 };
@@ -38,7 +40,7 @@ pub trait RunBook {
 
     /// Takes off the last word, or answers no where there is none.
     fn drop_last(&mut self) -> bool
-        ensures answer { λ r. ⌜ r ≡ filled (words (now (self .entry))) ⌝ }
+        ensures answer { λ r. ⌜ r ≡ droppable (words (now (self .entry))) ⌝ }
         ensures after { λ _. ⌜ words (now (self .exit)) ≡ dropped (words (now (self .entry))) ⌝ };
 
     /// How many words there are.
@@ -60,6 +62,3 @@ pub trait RunBook {
 pub fn run_is_longest()
     ensures { λ _. ⌜ Run-longest ⌝ }
 {}
-
-#[cfg(test)]
-mod tests;

@@ -9,7 +9,7 @@ ghost use Rattle.book.specs.Runs.{left, formed, Pushed, Popped};
 use crate::run::Run;
 
 /// As many runs as 255 steps can have of one symbol, a step between each two.
-pub(crate) const MOST: usize = 128;
+const MOST: usize = 128;
 
 /// The runs of one symbol, the newest first, behind the free places.
 #[derive(Clone, Copy)]
@@ -30,8 +30,8 @@ impl Row {
         }
     }
 
-    /// Says of the step behind the last whether it carries the symbol: the newest run goes on, or
-    /// a new one begins.
+    /// Says of the step behind the last whether it carries the symbol: if so, the newest run goes
+    /// on or a new one begins.
     pub(crate) fn push(&mut self, step: usize, carried: bool)
         requires room { ⌜ step < 255 ⌝ }
         requires formed { ⌜ formed step (drop (now self .free) (now self .runs)) ≡ true ⌝ }
@@ -51,7 +51,7 @@ impl Row {
         }
     }
 
-    /// Forgets the step, the last: a run that ends with it is shorter, or goes.
+    /// Forgets the last step: a run that ends with it is shorter, or goes.
     pub(crate) fn pop(&mut self, step: usize)
         requires { ⌜ formed (step + 1) (drop (now self .free) (now self .runs)) ≡ true ⌝ }
         ensures { λ _. ⌜ Popped step (drop (now (self .entry) .free) (now (self .entry) .runs)) (drop (now (self .exit) .free) (now (self .exit) .runs)) ⌝ }

@@ -7,8 +7,8 @@ ghost use lib.ListN.{getD, take};
 use crate::RunBook;
 use word::carries;
 
-/// The words in a row. Each call looks at one word, but `run`, which looks at each word of the run
-/// and the one behind it.
+/// The words of the steps one after another. `run` looks at each word of the run and the one behind
+/// it; every other call looks at one word at most.
 #[derive(Drop)]
 pub struct WordSheet {
     words: [u32; 255],

@@ -13,8 +13,10 @@ use crate::row::Row;
 use word::carries;
 
 /// A row of runs for each symbol, so that a symbol that stays costs one run however long it stays.
-/// `add` and `drop_last` look at the newest run of each symbol, `mark` and `run` at the runs of
-/// their symbol alone, from the newest back to the one that begins no later than the step.
+///
+/// `add` and `drop_last` look at the newest run of each symbol. `mark` and `run` look at the runs of
+/// their symbol alone, from the newest back to the first that begins no later than the step: at
+/// most 128. `empty` writes the whole table anew.
 #[derive(Drop)]
 pub struct RunTable {
     rows: [Row; 32],
@@ -57,6 +59,7 @@ impl RunTable {
         }
     }
 
+    /// The run of the symbol from the step on. Symbols above 31 have no row and no runs.
     fn left(&self, symbol: u8, step: usize) -> usize
         ensures { λ r. ⌜ r ≡ run-from (table-words (now (self .entry) .rows) (now (self .entry) .size)) symbol step ⌝ }
     {

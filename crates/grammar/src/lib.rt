@@ -6,6 +6,7 @@ ghost use lib.Dec.{eqb};
 ghost use Rattle.grammar.specs.Limits.{is-in as isIn};
 ghost use Rattle.std.specs.shelf.Text.{sameBytes};
 ghost use Rattle.grammar.specs.Names.{operator-word as operatorWord, kind-named as kindNamed, extra-zero as extraZero, small-number as smallNumber};
+ghost use Rattle.grammar.specs.Spelling.{takes-number as takesNumber};
 ghost use Rattle.grammar.specs.Machine.{first-need as firstNeed, after-part as afterPart, may-close as mayClose};
 
 mod types;
@@ -106,6 +107,22 @@ fn extra_zero(digits: &[u8]) -> bool
     ensures { λ r. ⌜ r ≡ extraZero (now (digits .entry)) ⌝ }
 {
     digits.len() > 1 && digits[0] == b'0'
+}
+
+/// Whether the kind goes with a number.
+pub fn takes_number(kind: Kind) -> bool
+    ensures { λ r. ⌜ r ≡ takesNumber kind ⌝ }
+{
+    matches!(
+        kind,
+        Kind::Exact
+            | Kind::Atleast
+            | Kind::Atmost
+            | Kind::In
+            | Kind::Precisely
+            | Kind::Noless
+            | Kind::Nomore
+    )
 }
 
 /// Whether the number is no length of 0.

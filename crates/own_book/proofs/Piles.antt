@@ -9,7 +9,7 @@ use lib.ListN.{length, getD, drop, set}
 use Rattle.std.proofs.shelf.Lists.{length-drop, length-reverse, length-push, drop-all, drop-more, drop-set, take-at, getD-drop, getD-reverse, getD-past}
 use Rattle.std.proofs.shelf.Tests.{cases-lt, cond-true, cond-false, lt-ltb, le-ltb}
 use Rattle.word.specs.Words.{has}
-use Rattle.book.specs.Words.{roomy, added, filled, dropped, marked}
+use Rattle.book.specs.Words.{roomy, added, droppable, dropped, marked}
 
 module _ (cells : List ℕ) (top : ℕ) (long : length cells ≡ 255) where
   abbrev pile : List ℕ
@@ -21,8 +21,8 @@ module _ (cells : List ℕ) (top : ℕ) (long : length cells ≡ 255) where
   pub pile-roomy : 0 < top → true ≡ roomy pile
   pile-roomy free = sym (lt-ltb (length pile) 255 (rw pile-size (omega arith)))
 
-  pub pile-filled : top < 255 → true ≡ filled pile
-  pile-filled some = sym (lt-ltb 0 (length pile) (rw pile-size (omega arith)))
+  pub pile-droppable : top < 255 → true ≡ droppable pile
+  pile-droppable some = sym (lt-ltb 0 (length pile) (rw pile-size (omega arith)))
 
   -- a full pile takes no word, and an empty one has none
   pub pile-full : (w : ℕ) → top ≡ 0 → (false ≡ roomy pile) × (pile ≡ added pile w)
@@ -33,8 +33,8 @@ module _ (cells : List ℕ) (top : ℕ) (long : length cells ≡ 255) where
   pub pile-none : 255 ≤ top → pile ≡ []
   pile-none none = ap reverse (drop-all top cells (omega arith))
 
-  pub pile-empty : 255 ≤ top → (false ≡ filled pile) × (pile ≡ dropped pile)
-  pile-empty none = (sym (ap filled (pile-none none)), pile-none none ∙ sym (ap dropped (pile-none none)))
+  pub pile-empty : 255 ≤ top → (false ≡ droppable pile) × (pile ≡ dropped pile)
+  pile-empty none = (sym (ap droppable (pile-none none)), pile-none none ∙ sym (ap dropped (pile-none none)))
 
   -- the word of step t lies in cell 254 - t
   word-is : (t : ℕ) → t < 255 - top → getD pile t 0 ≡ getD cells (254 - t) 0

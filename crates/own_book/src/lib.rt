@@ -71,26 +71,4 @@ pub impl RunBook for Pile as PileBook {
 }
 
 #[cfg(test)]
-mod tests {
-    use super::*;
-    use std::test::*;
-
-    #[test]
-    fn a_pile_has_room_for_255() -> Result<(), Fail> {
-        let mut pile = Pile::new();
-        check(!pile.drop_last() && pile.size() == 0).note("empty at first")?;
-        for step in 0..255 {
-            check(pile.add(step)).note(step)?;
-        }
-        check(!pile.add(0) && pile.size() == 255).note("full")?;
-        // the numbers from 128 to 254 have bit 7, and those from 252 to 254 bits 2 to 7
-        check_eq(pile.run(7, 128), 127)?;
-        check_eq(pile.run(2, 252), 3)?;
-        check(pile.mark(1, 254) && !pile.mark(0, 254) && !pile.mark(0, 255))?;
-        check(pile.drop_last() && pile.size() == 254 && pile.run(7, 128) == 126).note(
-            "one dropped",
-        )?;
-        pile.empty();
-        check(pile.size() == 0 && pile.run(7, 128) == 0).note("emptied")
-    }
-}
+mod tests;

@@ -60,7 +60,7 @@ fn answer(rt: &LibcRuntime, text: &[u8]) -> Result<(), AnyError> {
             print_records(rt, &sheet[0..count])
         }
         Err(fault) => {
-            println!(rt, "refused {} {}", fault.number(), fault.value())?;
+            println!(rt, "refused {} {}", fault.number(), fault.returned())?;
             Ok(())
         }
     }

@@ -1,4 +1,3 @@
 pub mod Ranges
 pub mod Listing
 pub mod Plain
-pub mod Steps

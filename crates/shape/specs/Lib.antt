@@ -2,4 +2,3 @@ pub mod Ranges
 pub mod Fits
 pub mod Listing
 pub mod Laws
-pub mod Symbols

@@ -2,8 +2,5 @@
 
 pub mod laws;
 mod stretch;
-mod symbols;
 
 pub use stretch::Stretch;
-pub use symbols::ListFault;
-pub use symbols::list_symbol;

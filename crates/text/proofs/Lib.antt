@@ -2,3 +2,9 @@ pub mod Store
 pub mod Steps
 pub mod Padding
 pub mod Promised
+pub mod Names
+pub mod Bound
+pub mod Putting
+pub mod Pens
+pub mod Rereading
+pub mod Written

@@ -25,7 +25,7 @@ use Rattle.grammar.specs.Machine.{State, state, step, and-then, run, start, don
 use Rattle.grammar.specs.Reading.{Right, Why}
 use Rattle.grammar.proofs.Runs.{ok-err, right, right-runs, why, because-stuck, because-number, because-limit, done-follows, follows-done}
 use Rattle.grammar.proofs.Trees.{Within, accepts, accepted}
-use Rattle.text.specs.declared.ReadShape.{ReadShape}
+use Rattle.text.specs.declared.shape.ReadShape.{ReadShape}
 use Rattle.text.specs.declared.fault.ReadFault.{ReadFault}
 use Rattle.text.specs.declared.fault.ReadFault.the-variants.{Sheet, Long, Word, Grammar}
 use Rattle.text.specs.Reading.{go-on, read-words, parsed, padded, reading, answered, refused-sheet, left-in}

@@ -14,7 +14,7 @@ use Rattle.grammar.specs.declared.types.GrammarFault.{GrammarFault}
 use Rattle.grammar.specs.declared.types.GrammarFault.the-variants.{Unexpected, Ended, Number, Limit}
 use Rattle.grammar.specs.Spelling.{Placed}
 use Rattle.grammar.specs.Reading.{Spells, Right, Why}
-use Rattle.text.specs.declared.ReadShape.{ReadShape}
+use Rattle.text.specs.declared.shape.ReadShape.{ReadShape}
 use Rattle.text.specs.declared.fault.ReadFault.{ReadFault}
 use Rattle.text.specs.declared.fault.ReadFault.the-variants.{Sheet, Long, Word, Grammar}
 use Rattle.text.specs.Reading.{padded}

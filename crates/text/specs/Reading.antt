@@ -12,7 +12,7 @@ use Rattle.words.specs.Words.{Stream, ends, bad, word, stream}
 use Rattle.grammar.specs.declared.types.GrammarFault.{GrammarFault}
 use Rattle.grammar.specs.declared.types.GrammarFault.the-variants.{Ended}
 use Rattle.grammar.specs.Machine.{State, step, start, done}
-use Rattle.text.specs.declared.ReadShape.{ReadShape}
+use Rattle.text.specs.declared.shape.ReadShape.{ReadShape}
 use Rattle.text.specs.declared.fault.ReadFault.{ReadFault}
 use Rattle.text.specs.declared.fault.ReadFault.the-variants.{Sheet, Long, Word, Grammar}
 

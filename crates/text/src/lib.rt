@@ -6,7 +6,7 @@ ghost use mathlib.Core.Bool.{true, false, not};
 ghost use mathlib.Core.Logic.{_↔_};
 ghost use Rattle.std.specs.Results.{isOk};
 ghost use Rattle.std.specs.declared.result.Result.{Result};
-ghost use Prim.Native.Nat.{ℕ, _+_, _-_, _^_, _≤_, _<_};
+ghost use Prim.Native.Nat.{ℕ, _+_, _-_, _^_, _≤_, _<_, min};
 ghost use lib.ListN.{length, take, drop, replicate};
 ghost use Rattle.query.specs.declared.node.Kind.the-variants.{Symbol};
 ghost use Rattle.query.specs.Stands.{at, blank};
@@ -15,15 +15,23 @@ ghost use Rattle.grammar.specs.Spelling.{is-symbol as isSymbol};
 ghost use Rattle.grammar.specs.Machine.{first-number as firstNumber, state, level, change, counted, numbered, fresh, begin, step, start, done};
 ghost use Rattle.text.specs.Seen.{seen, first-of as firstOf, behind, inside-top as insideTop, has-room as hasRoom, Begun, Stepped, name-step as nameStep, finished, Parsed};
 ghost use Rattle.text.specs.Reading.{parsed, padded, reading, answered, left-in as leftIn};
-ghost use Rattle.text.specs.Faults.{read-number as readNumber, read-value as readValue};
+ghost use Rattle.text.specs.Faults.{read-number as readNumber, read-returned as readReturned};
 ghost use Rattle.text.specs.Promise.{Means, Readable};
 
+mod binding;
 mod fault;
 mod machine;
+mod pen;
+mod shape;
+mod writing;
 
+pub use binding::Unbound;
+pub use binding::bind;
+pub use fault::BindFault;
 pub use fault::ReadFault;
 use fault::ReadFromGrammar;
 use fault::ReadFromWord;
+pub use fault::WriteFault;
 use grammar::GrammarFault;
 use grammar::Level;
 use grammar::Need;
@@ -35,9 +43,12 @@ use machine::Machine;
 use query::Kind;
 use query::Node;
 use query::Role;
+pub use shape::BoundShape;
+pub use shape::ReadShape;
 use words::Reader;
 use words::Token;
 use words::Word;
+pub use writing::write;
 
 impl ReadFault {
     /// The number of the refusal.
@@ -56,8 +67,8 @@ impl ReadFault {
     }
 
     /// What is returned with it: the records needed, the bytes allowed, or a place in the text.
-    pub fn value(self) -> usize
-        ensures { λ r. ⌜ r ≡ readValue self ⌝ }
+    pub fn returned(self) -> usize
+        ensures { λ r. ⌜ r ≡ readReturned self ⌝ }
     {
         match self {
             ReadFault::Sheet => 64,
@@ -73,18 +84,28 @@ impl ReadFault {
     }
 }
 
-/// A query that was read from a text: how many records it takes up. It can only be bound.
-pub struct ReadShape {
-    records: usize,
+impl ReadShape {
+    /// How many records the query takes up.
+    pub fn count(&self) -> usize
+        ensures { λ r. ⌜ r ≡ now (self .entry) .records ⌝ }
+    {
+        self.records
+    }
 }
 
-impl ReadShape {
-    /// Gives the shape up, and tells how many records it took up.
-    pub fn count(self) -> usize
-        ensures { λ r. ⌜ r ≡ self .records ⌝ }
+impl BoundShape {
+    /// How many records the query takes up.
+    pub fn count(&self) -> usize
+        ensures { λ r. ⌜ r ≡ now (self .entry) .records ⌝ }
     {
-        let ReadShape { records } = self;
-        records
+        self.records
+    }
+
+    /// Keeps only the first so many of its records, where it has more.
+    pub fn shorten(&mut self, records: usize)
+        ensures { λ _. ⌜ now (self .exit) .records ≡ min records (now (self .entry) .records) ⌝ }
+    {
+        self.records = records.min(self.records);
     }
 }
 

@@ -8,6 +8,7 @@ use lib.Ieee.{Float, fin, binary32, le, eq, sub, toBits}
 abbrev nothing : Float
 nothing = fin false 0 (pos 0)
 
+-- 25 * 2 ^ 2
 abbrev hundred : Float
 hundred = fin false 25 (pos 2)
 

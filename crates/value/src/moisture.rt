@@ -36,6 +36,8 @@ impl Moisture {
     }
 }
 
+/// A step is the later reading minus the earlier, rounded once. Its rank is the low 31 bits of the
+/// step as a whole number, negated if the sign bit is set, so that both zeros have rank 0.
 pub impl Value for Moisture as MoistureValue {
     ghost zero = { λ m. reading-zero (m .reading) };
 

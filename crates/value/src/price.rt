@@ -36,6 +36,7 @@ impl Price {
     }
 }
 
+/// The rank of a step is the later price minus the earlier.
 pub impl Value for Price as PriceValue {
     ghost zero = { λ p. price-zero (p .hundredths) };
 

@@ -1,2 +1,3 @@
 pub mod Rows
 pub mod Within
+pub mod Lexing

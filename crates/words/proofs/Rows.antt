@@ -85,7 +85,7 @@ module _ (k : Class) (mk : List ℕ → Lexeme) (fr : (p b : ℕ) (bs : List ℕ
           ∙ ap (λ q. word p (mk (b ∷ d ∷ take (row k ds) ds)) (stream q (drop (row k ds) ds))) q
       go false e ih = refl
 
-  whole : (p : ℕ) (bs : List ℕ) → 0 < length bs → class (getD bs 0 0) ≡ k → stream p bs ≡ word p (mk (take (row k bs) bs)) (stream (p + row k bs) (drop (row k bs) bs))
+  pub whole : (p : ℕ) (bs : List ℕ) → 0 < length bs → class (getD bs 0 0) ≡ k → stream p bs ≡ word p (mk (take (row k bs) bs)) (stream (p + row k bs) (drop (row k bs) bs))
   unfolding Long
   whole p [] h e = absurd (omega arith)
   whole p (b ∷ bs) h e =

@@ -26,3 +26,9 @@ abbrev pub Stands : Result (Option Word) WordFault → ℕ → ℕ → Type 0
 Stands (Ok None) before after = Unit {0}
 Stands (Ok (Some w)) before after = (before ≤ w .place) × (w .place < after) × (w .place + size (lexeme (w .token)) ≡ after)
 Stands (Err f) before after = before ≤ f .place
+
+-- where no word is taken, what was ahead stays ahead
+abbrev pub Stays : Result (Option Word) WordFault → Stream → Stream → Type 0
+Stays (Ok None) before after = after ≡ before
+Stays (Ok (Some w)) before after = Unit {0}
+Stays (Err f) before after = after ≡ before

@@ -4,7 +4,7 @@ ghost use mathlib.Core.Path.{_≡_};
 ghost use Prim.Native.Nat.{_+_, _≤_};
 ghost use lib.ListN.{length, drop};
 ghost use Rattle.words.specs.Words.{class, row};
-ghost use Rattle.words.specs.Ahead.{ahead, Takes, Stands};
+ghost use Rattle.words.specs.Ahead.{ahead, Takes, Stands, Stays};
 
 mod reader;
 
@@ -86,6 +86,7 @@ impl<'a> Reader<'a> {
         ensures text { λ r. ⌜ now (now (self .exit) .text) ≡ now (now (self .entry) .text) ⌝ }
         ensures stands { λ r. ⌜ Stands r (now (self .entry) .at) (now (self .exit) .at) ⌝ }
         ensures step { λ r. ⌜ Takes r (ahead (now (self .entry))) (ahead (now (self .exit))) ⌝ }
+        ensures rest { λ r. ⌜ Stays r (ahead (now (self .entry))) (ahead (now (self .exit))) ⌝ }
     {
         let text = self.text;
         let place = row_end(text, self.at, Class::Blank);

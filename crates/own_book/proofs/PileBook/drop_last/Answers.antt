@@ -1,6 +1,6 @@
 use borrow.Author.Needs.{needs}
 use native.Mathlib.Omega.{arith}
-use Rattle.own_book.proofs.Piles.{pile-empty, pile-filled, pile-dropped}
+use Rattle.own_book.proofs.Piles.{pile-empty, pile-droppable, pile-dropped}
 use Rattle.own_book.proofs.PileBook.drop_last.Needs as need
 
 pub returns-then-self-eq255 : need.returns-then-self-eq255
@@ -12,4 +12,4 @@ returns-then-self-eq255 c =
 pub returns : need.returns
 returns c =
     let b = c .args .self .now in
-    record { answer = pile-filled (b .cells) (b .top) (b .long) (search needs); after = pile-dropped (b .cells) (b .top) (b .long) (search needs) }
+    record { answer = pile-droppable (b .cells) (b .top) (b .long) (search needs); after = pile-dropped (b .cells) (b .top) (b .long) (search needs) }

@@ -1,6 +1,6 @@
 use borrow.Author.Needs.{needs}
 use Prim.Native.Nat.{_-_}
-use Rattle.book.proofs.Tables.{popped-formed, popped-words, filled-is}
+use Rattle.book.proofs.Tables.{popped-formed, popped-words, droppable-is}
 use Rattle.book.proofs.table.TableBook.drop_last.Needs as need
 
 pub ghost-self : need.ghost-self
@@ -12,6 +12,6 @@ pub returns : need.returns
 returns c =
     let b = c .args .self .now in
     record {
-      answer = filled-is (b .rows) (b .size) (search needs);
+      answer = droppable-is (b .rows) (b .size) (search needs);
       after = popped-words (b .rows) (c .pop-all .last .rows) (b .size - 1) (search needs) (c .pop-all .ensures) (b .size) (search needs);
     }

@@ -14,6 +14,7 @@ returns-then-place-text c = record {
   text = refl;
   stands = tt;
   step = skip-at _ _ _ (c .row-end-place .ensures .whole) ∙ end-at _ _ (c .if-place-text .taken);
+  rest = sym (skip-at _ _ _ (c .row-end-place .ensures .whole));
 }
 
 pub returns-in-Blank : need.returns-in-Blank
@@ -24,6 +25,7 @@ returns-in-Blank c = record {
       (λ blank. absurd (past-row-at Blank (c .args .self .now .text .now) _ _ (omega arith) (c .row-end-place .ensures .whole) (c .if-place-text .left) (sym (c .class-of .ensures) ∙ blank)))
       (λ other. one-at Other _ _ (c .if-place-text .left) (sym (c .class-of .ensures) ∙ other))
       (c .in-Blank .is);
+  rest = sym (skip-at _ _ _ (c .row-end-place .ensures .whole));
 }
 
 pub returns : need.returns
@@ -35,20 +37,24 @@ returns c =
         text = refl;
         stands = spans Letter (c .args .self .now .text .now) _ _ _ before (c .if-place-text .left) (sym (c .class-of .ensures) ∙ w .in-Letter .is) (w .row-end-end .ensures .whole) (w .row-end-end .ensures .within);
         step = skipped ∙ name-at _ _ _ (c .if-place-text .left) (sym (c .class-of .ensures) ∙ w .in-Letter .is) (w .row-end-end .ensures .whole);
+        rest = tt;
       })
       | in-Digit w ↦ rw (w .self-is, w .token-is) (record {
         text = refl;
         stands = spans Digit (c .args .self .now .text .now) _ _ _ before (c .if-place-text .left) (sym (c .class-of .ensures) ∙ w .in-Digit .is) (w .row-end-end-in-Digit .ensures .whole) (w .row-end-end-in-Digit .ensures .within);
         step = skipped ∙ number-at _ _ _ (c .if-place-text .left) (sym (c .class-of .ensures) ∙ w .in-Digit .is) (w .row-end-end-in-Digit .ensures .whole);
+        rest = tt;
       })
       | in-Open w ↦ rw (w .self-is, w .token-is) (record {
         text = refl;
         stands = (before, omega arith, refl);
         step = skipped ∙ one-at Open _ _ (c .if-place-text .left) (sym (c .class-of .ensures) ∙ w .in-Open .is);
+        rest = tt;
       })
       | in-Close w ↦ rw (w .self-is, w .token-is) (record {
         text = refl;
         stands = (before, omega arith, refl);
         step = skipped ∙ one-at Close _ _ (c .if-place-text .left) (sym (c .class-of .ensures) ∙ w .in-Close .is);
+        rest = tt;
       })
     ]

@@ -1,0 +1,5 @@
+pub mod Applies
+pub mod Parts
+pub mod Laws
+pub mod Shorter
+pub mod Places

@@ -1,0 +1,3 @@
+pub mod Grid
+pub mod Linking
+pub mod Sums

@@ -1,0 +1,5 @@
+pub mod Finding
+pub mod Changing
+pub mod Editing
+pub mod Stepping
+pub mod Promised

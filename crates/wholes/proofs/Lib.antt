@@ -1,0 +1,4 @@
+pub mod Chains
+pub mod Counts
+pub mod Placing
+pub mod Joining
