@@ -100,11 +100,41 @@ def random_bytes(rng):
     return bytes(rng.randrange(256) for _ in range(rng.randrange(12)))
 
 
+def whole(name, part):
+    """An operator around one part, with its number if it has one."""
+    what = FORMS[name][0]
+    return b"(" + name.encode() + (b" 3 " if what else b" ") + part + b")"
+
+
+def every_operator():
+    """Each operator bare, opened and whole, by itself and as the part of every operator: in every place, right or wrong."""
+    for name in FORMS:
+        inner = b"(precisely 1 up)" if name in ("in", "and", "or") else b"up"
+        for part in (name.encode(), b"(" + name.encode() + b")", whole(name, inner)):
+            yield part
+            for around in FORMS:
+                yield whole(around, part)
+                if around in ("precisely", "noless", "nomore", "and", "or", "inorder"):
+                    yield b"(in 4 " + whole(around, part) + b")"
+
+
+def at_limits():
+    """Numbers at their limits, one of 4,000 digits, and texts of 4,096 and 4,097 bytes."""
+    for number in (b"0", b"1", b"254", b"255", b"256", b"00", b"01", b"1" * 4000, b"0" * 4000):
+        yield b"(exact " + number + b" up)"
+        yield b"(in " + number + b" (precisely 1 up))"
+    for size in (4095, 4096, 4097):
+        yield b"up" + b" " * (size - 2)
+        yield b"a" * size
+
+
 def texts(seed, count):
     rng = random.Random(seed)
     yield b""
     for b in range(256):
         yield bytes([b])
+    yield from every_operator()
+    yield from at_limits()
     makers = [valid] * 6 + [damaged] * 6 + [loose_words] * 3 + [nested, wide, long, random_bytes]
     for _ in range(count):
         yield rng.choice(makers)(rng)

@@ -89,7 +89,11 @@ fn main() {
     match args.get(1).map(String::as_str) {
         Some("compare") => compare(number(2, 2000), number(3, 1995)),
         Some("list") => list(),
-        Some("time") => timing::time(),
+        Some("time") => {
+            timing::time();
+            println!();
+            timing::time_reading();
+        }
         _ => {
             eprintln!("usage: bench compare [CASES [SEED]] | bench time | bench list");
             exit(2);

@@ -39,10 +39,12 @@ fn dense() -> Shape {
     ])
 }
 
+/// Windows five deep, the innermost around a dense shape, inside a repeat.
 fn windows(outermost: u8) -> Shape {
-    (0..5).fold(dense(), |part, i| {
-        atmost(2, window(outermost - 2 * (4 - i), Window::Noless(2, part)))
-    })
+    let five = (0..5).fold(dense(), |part, i| {
+        window(outermost - 2 * (4 - i), Window::Noless(2, part))
+    });
+    atmost(2, five)
 }
 
 fn shapes() -> Vec<(&'static str, Shape)> {
@@ -142,5 +144,25 @@ pub fn time() {
             shape.records(),
             list / twin
         );
+    }
+}
+
+/// Texts of 4,096 bytes, and how long reading each takes, with binding where it is read.
+pub fn time_reading() {
+    let wide = format!("(any{})", " disappears".repeat(63));
+    let texts = [
+        (
+            "64 records and blanks",
+            format!("{wide}{}", " ".repeat(4096 - wide.len())),
+        ),
+        ("one name", "a".repeat(4096)),
+        ("one number", format!("(exact {} up)", "1".repeat(4096 - 11))),
+        ("parentheses", "(".repeat(4096)),
+    ];
+    println!("| text of 4,096 bytes | µs |");
+    println!("|---|---|");
+    for (name, text) in texts {
+        assert_eq!(text.len(), 4096);
+        println!("| {name} | {:.1} |", best(500, || proved::bind(&text).map_or(0, |n| n)));
     }
 }
