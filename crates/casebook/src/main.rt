@@ -31,7 +31,7 @@ fn all_input(rt: &LibcRuntime) -> Result<Vec<u8>, AnyError> {
 }
 
 // The text is the first argument, after a `--tidy`, or all of standard input where there is none.
-fn asked(rt: &LibcRuntime) -> Result<Asked, AnyError> {
+fn what_is_asked(rt: &LibcRuntime) -> Result<Asked, AnyError> {
     let mut args = env::args(rt)?;
     let _ = args.next();
     let mut given = args.next();
@@ -138,7 +138,7 @@ fn answer(rt: &LibcRuntime, asked: &Asked) -> Result<(), AnyError> {
 }
 
 fn run(rt: &LibcRuntime) -> Result<(), AnyError> {
-    answer(rt, &asked(rt)?)
+    answer(rt, &what_is_asked(rt)?)
 }
 
 fn main(rt: LibcRuntime) -> Result<(), AnyError> {
