@@ -1,5 +1,7 @@
 //! Alphabets: named symbols, and which of them a step carries.
 
+#![tactic(auto)]
+
 mod alphabet;
 mod bounds;
 mod carrying;

@@ -1,5 +1,7 @@
 //! Sheets and alphabets by example.
 
+#![tactic(auto)]
+
 #[cfg(test)]
 mod sheets;
 #[cfg(test)]

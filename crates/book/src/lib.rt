@@ -1,5 +1,7 @@
 //! Run books: lists of at most 255 words, one for each step, that tell how long a symbol is carried.
 
+#![tactic(auto)]
+
 ghost use Rattle.std.specs.Prelude.{◌≡◌, ℕ, ◌^◌, ◌<◌, ◌≤◌, List, [], length, slice_index};
 ghost use Rattle.book.specs.Words.{roomy, added, droppable, dropped, marked, run_from, RunLongest};
 

@@ -1,5 +1,7 @@
 //! Matching and tidying for C and Rust callers: texts and words as bytes, answers as numbers.
 
+#![tactic(auto)]
+
 use alphabet::Alphabet;
 use matcher::{fit, list};
 use query::Node;

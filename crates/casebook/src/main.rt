@@ -1,5 +1,7 @@
 //! Lists a text on the case line.
 
+#![tactic(auto)]
+
 use alphabet::Alphabet;
 use book::{RunBook, WordSheet};
 use matcher::list;

@@ -1,5 +1,7 @@
 //! The case line: ten steps between known prices, and eight shapes with the stretches that they fit.
 
+#![tactic(auto)]
+
 ghost use Rattle.std.specs.Prelude.{◌≡◌, ◌<◌, pos, slice_index_or};
 ghost use Rattle.caseline.specs.Cases.{CasesHold, LookAlikesHold};
 ghost use Rattle.caseline.specs.Line.{case_values, case_words};

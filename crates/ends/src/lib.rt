@@ -1,5 +1,7 @@
 //! Sets of positions, as the bits of four numbers.
 
+#![tactic(auto)]
+
 ghost use Rattle.std.specs.Prelude.{◌≡◌, ℕ, ◌/◌, ◌%◌, ◌^◌, ◌<◌, ◌≤◌, Bool, true, false, ◌&&◌, ◌||◌, replicate, ◌==◌, bit_or, count_ones, nat_lt};
 ghost use Rattle.ends.specs.Member.{member, tally, Next, right_of as rightOf};
 

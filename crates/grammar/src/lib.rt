@@ -1,5 +1,7 @@
 //! The grammar of texts: operator words, numbers, and what may stand behind what.
 
+#![tactic(auto)]
+
 ghost use Rattle.std.specs.Prelude.{◌≡◌, ◌+◌, ◌-◌, ◌*◌, not, ◌&&◌, ◌==◌};
 ghost use Rattle.grammar.specs.Limits.{is_in};
 ghost use Rattle.std.specs.Str.{bytes_eq};

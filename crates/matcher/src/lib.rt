@@ -1,5 +1,7 @@
 //! Which stretches of a line a query fits.
 
+#![tactic(auto)]
+
 mod calls;
 mod faults;
 mod survey;

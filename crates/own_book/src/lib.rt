@@ -1,5 +1,7 @@
 //! A run book of one's own: the words lie on a pile, the newest on top.
 
+#![tactic(auto)]
+
 ghost use Rattle.std.specs.Prelude.{◌≡◌, ℕ, ◌^◌, ◌<◌, ◌≤◌, [], reverse, length, drop, slice_index};
 ghost use Rattle.std.proofs.Common.{arith};
 ghost use Rattle.own_book.specs.Piles.{pile_size, pile_narrow};

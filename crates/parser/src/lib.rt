@@ -1,5 +1,7 @@
 //! The words of a text, taken one after another into the records of a query.
 
+#![tactic(auto)]
+
 ghost use Rattle.std.specs.Prelude.{◌≡◌, ℕ, ◌+◌, ◌^◌, ◌<◌, ◌≤◌, true, false, not, ◌||◌, List, [], ◌∷◌, ◌++◌, length, ◌==◌};
 ghost use Rattle.query.specs.declared.node.Kind.TheVariants.{Symbol};
 ghost use Rattle.words.specs.Words.{lexeme, size, opens, closes, name as nameWord, number as numberWord};

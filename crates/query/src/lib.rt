@@ -1,5 +1,7 @@
 //! Queries as records in a sheet, and the check that records are a query.
 
+#![tactic(auto)]
+
 ghost use Rattle.std.specs.Prelude.{◌≡◌, ◌+◌, ◌&&◌, length, Decides, nat_le};
 ghost use Rattle.query.specs.Kinds.{kind_number};
 ghost use Rattle.query.specs.Rules.{allows, AreQuery};

@@ -1,5 +1,7 @@
 //! Reads many texts, one a line in hexadecimal, and prints for each what reading gives.
 
+#![tactic(auto)]
+
 ghost use Rattle.std.specs.Prelude.{◌<◌, IfSome};
 
 use query::Node;

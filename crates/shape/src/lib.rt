@@ -1,5 +1,7 @@
 //! When a shape fits a stretch of a line.
 
+#![tactic(auto)]
+
 pub mod laws;
 mod stretch;
 

@@ -1,5 +1,7 @@
 //! The words of a line's steps, held for a look at each of them.
 
+#![tactic(auto)]
+
 ghost use Rattle.std.specs.Prelude.{◌≡◌, ℕ, ◌≤◌, Bool, [], length, ◌==◌, nat_lt, slice_index};
 ghost use Rattle.word.specs.Words.{has};
 ghost use Rattle.steps.specs.Meaning.{steps_of, Pushed};

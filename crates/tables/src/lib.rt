@@ -1,5 +1,7 @@
 //! Tables of stretches, and how they are joined.
 
+#![tactic(auto)]
+
 ghost use Rattle.std.specs.Prelude.{◌≡◌, ℕ, ◌<◌, ◌≤◌, Bool, true, false, ◌&&◌, ◌||◌, length, if◌then◌else◌, Decides, ◌==◌, nat_eq, nat_le};
 ghost use Rattle.shape.specs.Ranges.{inside};
 ghost use Rattle.ends.specs.Member.{member, Next};

@@ -1,5 +1,7 @@
 //! Texts of queries: read into a sheet of records, bound by an alphabet, and written out again.
 
+#![tactic(auto)]
+
 mod binding;
 mod fault;
 mod reading;

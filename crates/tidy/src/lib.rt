@@ -1,5 +1,7 @@
 //! Tidying: a query becomes one that says the same and that no rule can shorten.
 
+#![tactic(auto)]
+
 ghost use Rattle.std.specs.Prelude.{◌≡◌, ◌≤◌, ◌&&◌, length, take, None, Ok, nat_le};
 ghost use Rattle.query.specs.Stands.{is_query as isQuery};
 ghost use Rattle.query.specs.declared.node.Stage.TheVariants.{Bound};

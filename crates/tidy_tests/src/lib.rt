@@ -1,5 +1,7 @@
 //! Queries that are tidied, as examples. They stand apart from `tidy`, which is cheaper to check without them.
 
+#![tactic(auto)]
+
 #[cfg(test)]
 mod alternatives;
 #[cfg(test)]

@@ -1,5 +1,7 @@
 //! Which symbols a query uses: fitting looks at no others.
 
+#![tactic(auto)]
+
 ghost use Rattle.std.specs.Prelude.{◌≡◌, ℕ, ◌%◌, ◌^◌, ◌<◌};
 ghost use Rattle.word.specs.Words.{has};
 ghost use Rattle.used.specs.Uses.{is_symbol, used_in, SeesOnlyUsed, UsedByRecords};

@@ -1,5 +1,7 @@
 //! Kinds of value: whether a value is zero, and the rank of the step from one value to the next.
 
+#![tactic(auto)]
+
 ghost use Rattle.std.specs.Prelude.{◌≡◌, Bool, ℤ};
 ghost use Rattle.value.specs.Steps.{Near};
 

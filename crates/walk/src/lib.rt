@@ -1,5 +1,7 @@
 //! The walk through a query that stands in records: which stretches it fits.
 
+#![tactic(auto)]
+
 mod keeping;
 mod kept;
 mod walk;

@@ -1,5 +1,7 @@
 //! The table of a whole from the tables of its parts.
 
+#![tactic(auto)]
+
 ghost use Rattle.std.specs.Prelude.{◌≡◌};
 ghost use Rattle.wholes.specs.Shows.{lowest, allowed};
 

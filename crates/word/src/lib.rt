@@ -1,5 +1,7 @@
 //! The word of a step: the set of symbols that the step carries, as the bits of a number.
 
+#![tactic(auto)]
+
 ghost use Rattle.std.specs.Prelude.{◌≡◌, ◌/◌, ◌%◌, ◌^◌, ◌<◌, ◌==◌};
 ghost use Rattle.word.specs.Words.{has};
 

@@ -1,5 +1,7 @@
 //! The words of a text, handed out one after another as parts of that text.
 
+#![tactic(auto)]
+
 ghost use Rattle.std.specs.Prelude.{◌≡◌, ◌+◌, ◌≤◌, length, drop};
 ghost use Rattle.words.specs.Words.{class, row};
 ghost use Rattle.words.specs.Ahead.{ahead, Takes, Stands, Stays};

@@ -1,5 +1,7 @@
 //! Records of a bound query written one after another as a text.
 
+#![tactic(auto)]
+
 ghost use Rattle.std.specs.Prelude.{◌≡◌, ◌+◌, ◌-◌, ◌<◌, ◌≤◌, [], ◌∷◌, ◌++◌, length};
 ghost use Rattle.alphabet.specs.Symbols.{names_of};
 ghost use Rattle.writer.specs.Writing.{numeral, head_text, record_text, Wrote};
