@@ -157,6 +157,7 @@ for p in code:
             line = turned(line)
         lines.append(line)
     r = "\n".join(lines)
+    r = "\n".join(line if line.lstrip().startswith("//") else turned(line) for line in r.split("\n"))
     for alias, to in aliases.items():
         r = re.sub(r"(?<![\w'-])" + re.escape(alias) + r"(?![\w'-])", to, r)
     if r != t:

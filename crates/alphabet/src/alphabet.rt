@@ -17,7 +17,7 @@ pub struct Alphabet {
     pub(crate) rows: [Bounds; 32],
     ghost whole: { (length names ≡ 32) × (length rows ≡ 32) },
     ghost counted: { (1 ≤ count) × (count ≤ 32) },
-    ghost bounded: { every bounds-right (take count rows) ≡ true },
-    ghost named: { every may-name (spellings (take count names)) ≡ true },
-    ghost distinct: { all-distinct (spellings (take count names)) ≡ true },
+    ghost bounded: { every bounds_right (take count rows) ≡ true },
+    ghost named: { every may_name (spellings (take count names)) ≡ true },
+    ghost distinct: { all_distinct (spellings (take count names)) ≡ true },
 }

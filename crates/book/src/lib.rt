@@ -47,7 +47,7 @@ pub trait RunBook {
 
     /// How many words from the step on, one after another, have the symbol.
     fn run(&mut self, symbol: u8, step: usize) -> usize
-        ensures answer { result ≡ run-from (words self.old) symbol step }
+        ensures answer { result ≡ run_from (words self.old) symbol step }
         ensures same { words self.new ≡ words self.old };
 
     ghost short: { (b : Self) → length (words b) ≤ 255 };
@@ -57,5 +57,5 @@ pub trait RunBook {
 
 /// That a run is the longest: it answers nothing, and its contract is the law.
 pub fn run_is_longest()
-    ensures { Run-longest }
+    ensures { RunLongest }
 {}

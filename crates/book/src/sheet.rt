@@ -31,9 +31,9 @@ impl WordSheet {
 impl RunBook for WordSheet {
     ghost words = { λ b. take b.size b.words };
 
-    ghost short = { λ b. short-take b.size b.words b.short };
+    ghost short = { λ b. short_take b.size b.words b.short };
 
-    ghost narrow = { λ b. narrow-take b.size b.words b.narrow };
+    ghost narrow = { λ b. narrow_take b.size b.words b.narrow };
 
     fn empty(&mut self) {
         self.size = 0;

@@ -52,7 +52,7 @@ fn pop_all(rows: &mut [Row], step: usize)
 
 impl RunTable {
     pub fn new() -> RunTable
-        ensures { table-words result.rows result.size ≡ [] }
+        ensures { table_words result.rows result.size ≡ [] }
     {
         RunTable {
             rows: [Row::new(); 32],
@@ -62,7 +62,7 @@ impl RunTable {
 
     /// The run of the symbol from the step on. Symbols above 31 have no row and no runs.
     fn left(&self, symbol: u8, step: usize) -> usize
-        ensures { result ≡ run-from (table-words self.now.rows self.now.size) symbol step }
+        ensures { result ≡ run_from (table_words self.now.rows self.now.size) symbol step }
     {
         if symbol < 32 {
             self.rows[usize::from(symbol)].run(step)
@@ -73,7 +73,7 @@ impl RunTable {
 }
 
 impl RunBook for RunTable {
-    ghost words = { λ b. table-words b.rows b.size };
+    ghost words = { λ b. table_words b.rows b.size };
 
     ghost short = { λ b. omega (arith, size_is b.rows b.size, b.short) };
 

@@ -34,9 +34,9 @@ impl Pile {
 impl RunBook for Pile {
     ghost words = { λ b. reverse (drop b.top b.cells) };
 
-    ghost short = { λ b. omega (arith, pile-size b.cells b.top b.long) };
+    ghost short = { λ b. omega (arith, pile_size b.cells b.top b.long) };
 
-    ghost narrow = { λ b. pile-narrow b.cells b.top b.long b.narrow };
+    ghost narrow = { λ b. pile_narrow b.cells b.top b.long b.narrow };
 
     fn empty(&mut self) {
         self.top = 255;

@@ -14,13 +14,13 @@ const SIGN: u32 = 0x8000_0000;
 #[derive(Clone, Copy)]
 pub struct Moisture {
     reading: f32,
-    ghost range: { reading-range reading ≡ true },
+    ghost range: { reading_range reading ≡ true },
 }
 
 impl Moisture {
     /// The moisture of a reading, refused outside the range, as a NaN is.
     pub fn new(reading: f32) -> Result<Moisture, ValueFault>
-        ensures { numbered (λ m. m.reading) result ≡ checked (reading-range reading) reading }
+        ensures { numbered (λ m. m.reading) result ≡ checked (reading_range reading) reading }
     {
         if 0.0 <= reading && reading <= 100.0 {
             Ok(Moisture { reading })
@@ -39,9 +39,9 @@ impl Moisture {
 /// A step is the later reading minus the earlier, rounded once. Its rank is the low 31 bits of the
 /// step as a whole number, negated if the sign bit is set, so that both zeros have rank 0.
 impl Value for Moisture {
-    ghost zero = { λ m. reading-zero m.reading };
+    ghost zero = { λ m. reading_zero m.reading };
 
-    ghost rank = { λ earlier later. reading-rank earlier.reading later.reading };
+    ghost rank = { λ earlier later. reading_rank earlier.reading later.reading };
 
     ghost near = { first_of (Prim.search rules, Prim.grind (arith, Self.row.coded.inj)) };
 

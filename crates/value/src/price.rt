@@ -11,13 +11,13 @@ use crate::{Value, ValueFault};
 #[derive(Clone, Copy)]
 pub struct Price {
     hundredths: i32,
-    ghost range: { price-range hundredths ≡ true },
+    ghost range: { price_range hundredths ≡ true },
 }
 
 impl Price {
     /// The price of so many hundredths, refused outside the range.
     pub fn new(hundredths: i64) -> Result<Price, ValueFault>
-        ensures { numbered (λ p. p.hundredths) result ≡ checked (price-range hundredths) hundredths }
+        ensures { numbered (λ p. p.hundredths) result ≡ checked (price_range hundredths) hundredths }
     {
         if -1_000_000_000 <= hundredths && hundredths <= 1_000_000_000 {
             Ok(Price {
@@ -37,7 +37,7 @@ impl Price {
 
 /// The rank of a step is the later price minus the earlier.
 impl Value for Price {
-    ghost zero = { λ p. price-zero p.hundredths };
+    ghost zero = { λ p. price_zero p.hundredths };
 
     ghost rank = { λ earlier later. later.hundredths -ℤ earlier.hundredths };
 

@@ -2,7 +2,7 @@ use Rattle.std.proofs.Common.{◌≡◌, ℕ, ◌+◌, ◌-◌}
 use Rattle.query.specs.Stands.{ends, end_at}
 use Rattle.query.proofs.+tree_end.Given as goal
 
-abbrev pub decreases-tree-end : goal.decreases-tree-end
+abbrev pub decreases-tree-end : goal.decreases-tree_end
 decreases-tree-end l = l.levels
 
 -- the parts that are left, from the index reached, end where all of them do
