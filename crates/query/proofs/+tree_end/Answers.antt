@@ -13,24 +13,24 @@ returns-then-not-right t c =
 pub loop-k-preserved : goal.loop-k-preserved
 loop-k-preserved t c =
     let parts = (at c.args.records.now c.args.i).parts in
-    ends_more (end_at c.args.stage (c.args.levels - 1) c.args.records.now c.part-role-inner.result) (parts - c.loop-k.k)
-    (parts - (c.loop-k.k + 1)) c.loop-k.next c.in-ok-next.next (omega arith) c.in-ok-next.ensures
+    ends_more (end_at c.args.stage (c.args.levels - 1) c.args.records.now c.part_role-inner.result) (parts - c.loop-k.k)
+    (parts - (c.loop-k.k + 1)) c.loop-k.next c.in_ok-next.next (omega arith) c.in_ok-next.ensures
     ∙ c.loop-k.invariant
 
-pub returns-in-err-next : goal.returns-in-err-next
-returns-in-err-next t c =
+pub returns-in_err-next : goal.returns-in_err-next
+returns-in_err-next t c =
     let parts = (at c.args.records.now c.args.i).parts in
-    c.from-residual.ensures
-    ∙ ends_stop (end_at c.args.stage (c.args.levels - 1) c.args.records.now c.part-role-inner.result) (parts - c.loop-k.k)
-    (parts - (c.loop-k.k + 1)) c.loop-k.next (omega arith) c.in-err-next.ensures
+    c.from_residual.ensures
+    ∙ ends_stop (end_at c.args.stage (c.args.levels - 1) c.args.records.now c.part_role-inner.result) (parts - c.loop-k.k)
+    (parts - (c.loop-k.k + 1)) c.loop-k.next (omega arith) c.in_err-next.ensures
     ∙ c.loop-k.invariant
-    ∙ end_on c.args.stage c.args.records.now c.args.role c.args.i c.args.levels c.part-role-inner.result
-    c.if-levels-eq0.false c.if-i-records.false c.if-not-right.ensures c.part-role-inner.ensures
+    ∙ end_on c.args.stage c.args.records.now c.args.role c.args.i c.args.levels c.part_role-inner.result
+    c.if-levels-eq0.false c.if-i-records.false c.if-not-right.ensures c.part_role-inner.ensures
 
 pub returns : goal.returns
 returns t c =
     let parts = (at c.args.records.now c.args.i).parts in
-    ends_all (end_at c.args.stage (c.args.levels - 1) c.args.records.now c.part-role-inner.result) (parts - c.loop-k.k) c.loop-k.next (omega arith)
+    ends_all (end_at c.args.stage (c.args.levels - 1) c.args.records.now c.part_role-inner.result) (parts - c.loop-k.k) c.loop-k.next (omega arith)
     ∙ c.loop-k.invariant
-    ∙ end_on c.args.stage c.args.records.now c.args.role c.args.i c.args.levels c.part-role-inner.result
-    c.if-levels-eq0.false c.if-i-records.false c.if-not-right.ensures c.part-role-inner.ensures
+    ∙ end_on c.args.stage c.args.records.now c.args.role c.args.i c.args.levels c.part_role-inner.result
+    c.if-levels-eq0.false c.if-i-records.false c.if-not-right.ensures c.part_role-inner.ensures

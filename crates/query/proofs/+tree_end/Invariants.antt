@@ -2,8 +2,8 @@ use Rattle.std.proofs.Common.{◌≡◌, ℕ, ◌+◌, ◌-◌}
 use Rattle.query.specs.Stands.{ends, end_at}
 use Rattle.query.proofs.+tree_end.Given as goal
 
-abbrev pub decreases-tree-end : goal.decreases-tree_end
-decreases-tree-end l = l.levels
+abbrev pub decreases-tree_end : goal.decreases-tree_end
+decreases-tree_end l = l.levels
 
 -- the parts that are left, from the index reached, end where all of them do
 abbrev pub invariant-loop-k : goal.invariant-loop-k

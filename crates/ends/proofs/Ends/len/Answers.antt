@@ -9,21 +9,21 @@ pub loop-w-init : goal.loop-w-init
 unfolding tally
 loop-w-init c = refl
 
-pub overflow-cast-total : goal.overflow-cast-total
-overflow-cast-total c =
+pub overflow_cast-total : goal.overflow_cast-total
+overflow_cast-total c =
     let n : ℕ = get_or c.args.self.now.bits c.loop-w.w 0 in
     let f : n < 2 ^ 64 = search rules in
     let o = ones-le 64 n f in
     search rules
 
-pub overflow-add-total : goal.overflow-add-total
-overflow-add-total c =
+pub overflow_add-total : goal.overflow_add-total
+overflow_add-total c =
     let n : ℕ = get_or c.args.self.now.bits c.loop-w.w 0 in
     let f : n < 2 ^ 64 = search rules in
     let o = ones-le 64 n f in
-    let e = c.bits-in.ensures in
+    let e = c.bits_in.ensures in
     let t = tally_le (member c.args.self.now) (64 * c.loop-w.w) 0 in
     search rules
 
 pub loop-w-preserved : goal.loop-w-preserved
-loop-w-preserved c = tally_more c.args.self.now.bits c.loop-w.w c.loop-w.total c.bits-in.result (search rules) c.bits-in.ensures c.loop-w.invariant
+loop-w-preserved c = tally_more c.args.self.now.bits c.loop-w.w c.loop-w.total c.bits_in.result (search rules) c.bits_in.ensures c.loop-w.invariant

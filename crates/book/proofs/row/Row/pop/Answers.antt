@@ -14,8 +14,8 @@ returns-then-end-step c =
     pop_off c.args.step (drop row.free row.runs)
     (less_row c.args.step row.free row.runs (search rules) c.requires (omega (arith, c.end.ensures)))
 
-pub overflow-sub-self : goal.overflow-sub-self
-overflow-sub-self c =
+pub overflow_sub-self : goal.overflow_sub-self
+overflow_sub-self c =
     let row = c.args.self.now in
     some_row _ row.free row.runs (search rules) c.requires
 

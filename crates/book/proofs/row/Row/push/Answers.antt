@@ -9,8 +9,8 @@ returns-then-not-carried c =
     let row = c.args.self.now in
     said c.args.step c.args.carried false _ _ c.if-not-carried.true (push_off c.args.step (drop row.free row.runs) c.requires.formed)
 
-pub overflow-sub-self : goal.overflow-sub-self
-overflow-sub-self c =
+pub overflow_sub-self : goal.overflow_sub-self
+overflow_sub-self c =
     let row = c.args.self.now in
     free_row c.args.step row.free row.runs row.long c.requires.room c.requires.formed
 

@@ -12,7 +12,7 @@ pub returns-then-from-step : goal.returns-then-from-step
 returns-then-from-step c =
     let row = c.args.self.now in
     let runs = take (128 - row.free) (drop row.free row.runs) in
-    c.saturating-sub.ensures
+    c.saturating_sub.ensures
     ∙ ap (λ n. n - c.args.step) c.end.ensures
     ∙ sym (look_in runs c.loop-run.run_index c.args.step c.loop-run-test.true (omega (arith, c.from.ensures)))
     ∙ c.loop-run.invariant

@@ -3,8 +3,8 @@ use Rattle.book.specs.Narrow.{narrow_set}
 use Rattle.book.specs.Sheets.{roomy_is, added_is}
 use Rattle.book.proofs.sheet.WordSheetRunBook.add.Goals as goal
 
-pub invariant-of-self : goal.invariant-of-self
-invariant-of-self c =
+pub invariant_of-self : goal.invariant_of-self
+invariant_of-self c =
     let b = c.args.self.now in
     (search rules, (narrow_set b.words b.size c.args.word (search rules) (search rules) b.narrow, tt))
 

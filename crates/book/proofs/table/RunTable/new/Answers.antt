@@ -2,5 +2,5 @@ use Rattle.std.proofs.Common.{refl, rules}
 use Rattle.book.specs.TablesLemmas.{none_formed}
 use Rattle.book.proofs.table.RunTable.new.Goals as goal
 
-pub invariant-of-result : goal.invariant-of-result
-invariant-of-result c = (search rules, (refl, (none_formed c.new.result 0 32 c.new.ensures, tt)))
+pub invariant_of-result : goal.invariant_of-result
+invariant_of-result c = (search rules, (refl, (none_formed c.new.result 0 32 c.new.ensures, tt)))

@@ -2,10 +2,10 @@ use Rattle.std.proofs.Common.{rules}
 use Rattle.book.specs.TablesLemmas.{pushed_formed, pushed_words, roomy_is}
 use Rattle.book.proofs.table.RunTableRunBook.add.Goals as goal
 
-pub invariant-of-self : goal.invariant-of-self
-invariant-of-self c =
+pub invariant_of-self : goal.invariant_of-self
+invariant_of-self c =
     let b = c.args.self.now in
-    (search rules, (search rules, (pushed_formed b.rows c.push-all.new.rows b.size c.args.word (search rules) b.formed c.push-all.ensures, tt)))
+    (search rules, (search rules, (pushed_formed b.rows c.push_all.new.rows b.size c.args.word (search rules) b.formed c.push_all.ensures, tt)))
 
 pub returns : goal.returns
 returns c =
@@ -13,5 +13,5 @@ returns c =
     record {
       answer = roomy_is b.rows b.size (search rules);
       after =
-          pushed_words b.rows c.push-all.new.rows b.size c.args.word (search rules) b.formed c.push-all.ensures (search rules) (search rules);
+          pushed_words b.rows c.push_all.new.rows b.size c.args.word (search rules) b.formed c.push_all.ensures (search rules) (search rules);
     }
