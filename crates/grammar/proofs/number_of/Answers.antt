@@ -1,4 +1,4 @@
-use Rattle.std.proofs.Common.{◌≡◌, ◌+◌, drop, sym, refl, ap, ◌∙◌, arith}
+use Rattle.std.proofs.Common.{◌+◌, drop, sym, refl, ap, ◌∙◌, arith}
 use Rattle.grammar.specs.Names.{natural_after}
 use Rattle.grammar.proofs.Naming.{zero_extra, over, kept, too_large, digit_more, is_small}
 use Rattle.grammar.proofs.number_of.Goals as goal

@@ -1,6 +1,6 @@
-use Rattle.std.proofs.Common.{◌≡◌, [], ◌∷◌, ◌++◌, take, drop, refl, ap, ◌∙◌, arith}
+use Rattle.std.proofs.Common.{[], ◌∷◌, ◌++◌, take, drop, ap, ◌∙◌, arith}
 use Rattle.std.proofs.lemmas.List.{take_more_set}
-use Rattle.grammar.specs.Machine.{state, fresh}
+use Rattle.grammar.specs.Machine.{state}
 use Rattle.parser.proofs.machine.Machine.add.Goals as goal
 
 pub returns : goal.returns

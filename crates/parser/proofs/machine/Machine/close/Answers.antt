@@ -1,4 +1,4 @@
-use Rattle.std.proofs.Common.{◌≡◌, take, drop, Ok, sym, ap, ◌∙◌, arith}
+use Rattle.std.proofs.Common.{take, drop, Ok, sym, ap, ◌∙◌}
 use Rattle.grammar.specs.Machine.{state}
 use Rattle.parser.proofs.Store.{popped, inside_open}
 use Rattle.parser.proofs.Steps.{closes_ok}

@@ -1,4 +1,4 @@
-use Rattle.std.proofs.Common.{◌≡◌, not, eqb, sym, ap, ◌∙◌, arith}
+use Rattle.std.proofs.Common.{not, eqb, sym, ap, ◌∙◌, arith}
 use Rattle.std.proofs.lemmas.Bool.{or_parts, eqb-false}
 use Rattle.parser.proofs.Store.{room_is, full_is}
 use Rattle.parser.proofs.machine.Machine.is_full.Goals as goal
