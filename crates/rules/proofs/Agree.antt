@@ -4,7 +4,7 @@ use Rattle.std.proofs.lemmas.Bool.{cases_lt, ne_eqb, and_left}
 use Rattle.query.specs.declared.node.Kind.{Kind}
 use Rattle.query.specs.declared.node.Kind.TheVariants.{Symbol, Any, Concat, Exact, Atleast, Atmost, In, Precisely, Noless, Nomore, And, Or, Inorder}
 use Rattle.shape.specs.declared.stretch.Stretch.{Stretch}
-use Rattle.shape.specs.Ranges.{some_from, some, stretch, row_from, rows_from, inside}
+use Rattle.shape.specs.Ranges.{some_from, some, stretch, row_from, rows_from}
 use Rattle.shape.specs.Fits.{Rule, only, one_of, all_of, sequence, chain, exactly, at_least, at_most, times, one_after_another, whole}
 
 -- the two rules say the same of each stretch that ends on a line of n steps

@@ -1,6 +1,6 @@
 -- Going through a row of queries one by one, while what is looked for in those left is what is looked for in all.
-use Rattle.std.proofs.Common.{◌≡◌, ℕ, zero, suc, ◌+◌, ◌-◌, ◌<◌, ◌≤◌, Bool, true, false, ◌||◌, List, [], ◌∷◌, ◌++◌, length, drop, Some, None, sym, refl, ap, ◌∙◌, subst, append_assoc, arith}
-use Rattle.std.proofs.lemmas.List.{length-append, length-drop, drop-drop, drop_at}
+use Rattle.std.proofs.Common.{◌≡◌, ℕ, ◌+◌, ◌-◌, ◌<◌, ◌≤◌, Bool, true, false, ◌||◌, List, ◌++◌, length, drop, Some, None, sym, refl, ap, ◌∙◌, append_assoc, arith}
+use Rattle.std.proofs.lemmas.List.{drop-drop, drop_at}
 use Rattle.query.specs.declared.node.Kind.{Kind}
 use Rattle.query.specs.declared.node.Node.{Node}
 use Rattle.query.specs.Tree.{Query, node, Queries, none, more, count, records, records_each}
@@ -8,7 +8,7 @@ use Rattle.query.specs.Stands.{at}
 use Rattle.query.proofs.Standing.{drop_head}
 use Rattle.rules.specs.Applies.{some_part}
 use Rattle.rules.specs.Parts.{join}
-use Rattle.rules.specs.Places.{Here, Row, Stands, Stand, Ends, Found_at, Finds}
+use Rattle.rules.specs.Places.{Here, Row, Stands, Stand, Ends, Finds}
 use Rattle.rules.proofs.Parts.{size_join, size_more}
 use Rattle.rules.proofs.Walking.{none_long, row_long, row_inside}
 

@@ -1,7 +1,7 @@
 -- Queries to which each rule applies, and some to which none does.
 use Rattle.std.proofs.Common.{◌≡◌, ℕ, true, false, refl}
 use Rattle.query.specs.declared.node.Kind.{Kind}
-use Rattle.query.specs.declared.node.Kind.TheVariants.{Symbol, Any, Concat, Exact, Atleast, Atmost, In, Noless, And, Or}
+use Rattle.query.specs.declared.node.Kind.TheVariants.{Symbol, Any, Concat, Exact, Atleast, Atmost, In, Noless, And}
 use Rattle.query.specs.Tree.{Query, node, Queries, none, more, alike}
 use Rattle.rules.specs.Applies.{some_part, some_pair, some_next, windowed, applies_here, applies}
 

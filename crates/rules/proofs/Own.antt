@@ -1,5 +1,5 @@
 -- Without a window inside, what fits seen from some position also fits seen from its own start.
-use Rattle.std.proofs.Common.{◌≡◌, ℕ, zero, suc, ◌<◌, ◌≤◌, Bool, true, false, ◌&&◌, ◌||◌, List, [], ◌∷◌, length, sym, refl, ap, ◌∙◌, subst, inl, inr, arith}
+use Rattle.std.proofs.Common.{◌≡◌, ℕ, true, false, List, [], ◌∷◌, length, sym, refl, ap, ◌∙◌, subst, inl, inr, arith}
 use Rattle.std.proofs.lemmas.Bool.{and_parts, or_parts, or_cases, or_left, or_right, true≢false, false≢true}
 use Rattle.query.specs.declared.node.Kind.{Kind}
 use Rattle.query.specs.declared.node.Kind.TheVariants.{Symbol, Any, Concat, Exact, Atleast, Atmost, In, Precisely, Noless, Nomore, And, Or, Inorder}
@@ -11,7 +11,7 @@ use Rattle.query.specs.Rules.{record_right, part_role, keeps, keeps_each}
 use Rattle.shape.specs.Fits.{Rule, only, one_of, sequence, whole, fits, fits_each}
 use Rattle.shape.specs.Laws.{Pieces}
 use Rattle.rules.specs.Applies.{repeats, windowed, windowed_each}
-use Rattle.rules.proofs.Repeats.{Chain, Repeat, repeat_decides}
+use Rattle.rules.proofs.Repeats.{Chain, repeat_decides}
 use Rattle.rules.proofs.Sequence.{meet_decides}
 
 -- what the rule fits, it fits seen from its own start

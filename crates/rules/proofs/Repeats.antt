@@ -1,11 +1,10 @@
 -- Exact, atleast and atmost as one: chains of a number of pieces that the kind allows.
-use Rattle.std.proofs.Common.{◌≡◌, ℕ, zero, suc, ◌+◌, ◌-◌, ◌<◌, ◌≤◌, Bool, true, false, ◌&&◌, ◌||◌, ◌⊎◌, List, [], ◌∷◌, length, Decides, sym, refl, ap, ◌∙◌, subst, inl, inr, arith}
-use Rattle.std.proofs.lemmas.Bool.{false≢true, cases_lt, or_cases, or_left, or_right}
+use Rattle.std.proofs.Common.{◌≡◌, ℕ, zero, suc, ◌-◌, ◌<◌, ◌≤◌, true, ◌||◌, ◌⊎◌, List, [], ◌∷◌, length, Decides, refl, subst, inl, inr, arith}
+use Rattle.std.proofs.lemmas.Bool.{false≢true, cases_lt}
 use Rattle.std.proofs.lemmas.Bool.Decides.{Decides-like, Decides-or, same_from_decides}
 use Rattle.query.specs.declared.node.Kind.{Kind}
 use Rattle.query.specs.declared.node.Kind.TheVariants.{Symbol, Any, Concat, Exact, Atleast, Atmost, In, Precisely, Noless, Nomore, And, Or, Inorder}
-use Rattle.shape.specs.Ranges.{some}
-use Rattle.shape.specs.Fits.{Rule, only, sequence, exactly, at_least, at_most, whole}
+use Rattle.shape.specs.Fits.{Rule, only, exactly, at_least, at_most, whole}
 use Rattle.shape.specs.Laws.{Pieces}
 use Rattle.shape.proofs.Ranges.{some_decides}
 use Rattle.shape.proofs.Plain.{exactly_decides, chain_is_short}

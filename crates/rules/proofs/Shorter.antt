@@ -1,5 +1,5 @@
 -- Each rule of tidying makes a query shorter and leaves alone what it fits and what it keeps.
-use Rattle.std.proofs.Common.{◌≡◌, ℕ, zero, suc, ◌+◌, ◌<◌, ◌≤◌, min, max, Bool, true, false, cond, ◌&&◌, ◌||◌, eqb, ltb, leb, List, [], ◌∷◌, ◌++◌, length, sym, refl, ap, ◌∙◌, subst, arith}
+use Rattle.std.proofs.Common.{◌≡◌, ℕ, ◌<◌, ◌≤◌, min, max, Bool, true, false, cond, ◌&&◌, ◌||◌, eqb, ltb, leb, List, length, sym, refl, ap, ◌∙◌, subst, arith}
 use Rattle.std.proofs.lemmas.Bool.{and_parts, and_from, ltb-true, lt-ltb, leb-true, le-leb, false≢true}
 use Rattle.query.specs.declared.node.Kind.{Kind}
 use Rattle.query.specs.declared.node.Kind.TheVariants.{Symbol, Any, Concat, Exact, Atleast, Atmost, In, Precisely, Noless, Nomore, And, Or, Inorder}
@@ -7,7 +7,7 @@ use Rattle.query.specs.declared.node.Role.{Role}
 use Rattle.query.specs.declared.node.Role.TheVariants.{Shape, Window, Count}
 use Rattle.query.specs.declared.node.Stage.{Stage}
 use Rattle.query.specs.Kinds.{kind_number, same_kind}
-use Rattle.query.specs.Tree.{Query, node, Queries, none, more, count, records, records_each, levels, levels_each, alike}
+use Rattle.query.specs.Tree.{Query, node, Queries, none, more, count, records, records_each, levels, alike}
 use Rattle.query.specs.Rules.{allows, part_role, parts_right, number_right, keeps, keeps_each}
 use Rattle.rules.specs.Applies.{kind_of, number_of, repeats, unordered, gathers, over_one, empty, merges, stands_alone}
 use Rattle.rules.specs.Parts.{join, merged_kind, merged_number, renamed}

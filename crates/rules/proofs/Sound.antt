@@ -1,23 +1,23 @@
 -- Each rule of tidying leaves alone what a query fits.
-use Rattle.std.proofs.Common.{◌≡◌, ℕ, zero, suc, ◌+◌, ◌<◌, ◌≤◌, Bool, true, false, ◌&&◌, ◌||◌, eqb, List, [], ◌∷◌, ◌++◌, length, sym, refl, ap, ◌∙◌, subst, ap₂, arith}
-use Rattle.std.proofs.lemmas.Bool.{and_parts, not-true, eqb-true, ltb-true, cases_Bool, false≢true}
+use Rattle.std.proofs.Common.{◌≡◌, ℕ, suc, ◌<◌, ◌≤◌, Bool, true, false, ◌&&◌, ◌||◌, List, [], ◌∷◌, ◌++◌, length, sym, refl, ap, ◌∙◌, subst, arith}
+use Rattle.std.proofs.lemmas.Bool.{and_parts, not-true, eqb-true, ltb-true, false≢true}
 use Rattle.query.specs.declared.node.Kind.{Kind}
 use Rattle.query.specs.declared.node.Kind.TheVariants.{Symbol, Any, Concat, Exact, Atleast, Atmost, In, Precisely, Noless, Nomore, And, Or, Inorder}
 use Rattle.query.specs.declared.node.Role.{Role}
 use Rattle.query.specs.declared.node.Role.TheVariants.{Shape}
 use Rattle.query.specs.declared.node.Stage.{Stage}
 use Rattle.query.specs.Kinds.{same_kind}
-use Rattle.query.specs.Tree.{Query, node, Queries, none, more, count, alike, alike_each}
+use Rattle.query.specs.Tree.{Query, node, Queries, none, more, count}
 use Rattle.query.specs.Rules.{part_role, keeps, keeps_each}
 use Rattle.query.proofs.Alike.{same_kind_is}
-use Rattle.shape.specs.Fits.{Rule, only, one_of, all_of, sequence, whole, fits, fits_each}
-use Rattle.rules.specs.Applies.{kind_of, number_of, parts_of, repeats, gathers, over_one, empty, windowed, windowed_each}
+use Rattle.shape.specs.Fits.{Rule, only, sequence, whole, fits, fits_each}
+use Rattle.rules.specs.Applies.{repeats, empty, windowed_each}
 use Rattle.rules.specs.Parts.{join, merged_kind, merged_number}
-use Rattle.rules.specs.Laws.{FitAlike, PartByPart, EqualFitAlike, Unnesting, Doubles, SinglePart, DeadSequence, NeighbourGoes, NeighboursDead, Alternatives, NestedDead, NestedGoes}
+use Rattle.rules.specs.Laws.{PartByPart, EqualFitAlike, Unnesting, Doubles, SinglePart, DeadSequence, NeighbourGoes, NeighboursDead, Alternatives, NestedDead, NestedGoes}
 use Rattle.rules.proofs.Agree.{Agree, AgreeEach, some_agree, whole_agree}
 use Rattle.rules.proofs.Choice.{one_flat, all_flat, one_joined, all_joined}
 use Rattle.rules.proofs.Sequence.{meet, meet_decides, behind, dead_behind, dead_head, sequence_flat}
-use Rattle.rules.proofs.Repeats.{Counts, repeats_joined, neighbour_goes, neighbour_dead, nested_dead, nested_goes}
+use Rattle.rules.proofs.Repeats.{repeats_joined, neighbour_goes, neighbour_dead, nested_dead, nested_goes}
 use Rattle.rules.proofs.Own.{Own, own_each}
 use Rattle.rules.proofs.Parts.{fits_join, alike_fits, alike_fits_each}
 use Rattle.rules.proofs.Cases.{on_unordered, on_gathers, merge_counts, may_be_null, never_null, not_fewer}

@@ -1,7 +1,7 @@
 -- Whether a rule of tidying applies to a query: all that it asks for stands somewhere in the query. Assumes nothing.
 --
 -- Below, M is exact, atleast or atmost, and P is one and the same query, wherever its words lie.
-use Rattle.std.specs.Prelude.{ℕ, ◌+◌, Bool, true, false, not, ◌&&◌, ◌||◌, ◌==◌, nat_le, nat_lt}
+use Rattle.std.specs.Prelude.{ℕ, ◌+◌, Bool, false, not, ◌&&◌, ◌||◌, ◌==◌, nat_le, nat_lt}
 use Rattle.query.specs.declared.node.Kind.{Kind}
 use Rattle.query.specs.declared.node.Kind.TheVariants.{Any, Concat, Exact, Atleast, Atmost, In, And, Or}
 use Rattle.query.specs.Kinds.{same_kind}

@@ -2,7 +2,7 @@
 use Rattle.std.specs.Prelude.{◌≡◌, ℕ, Bool, true, false, List, [], ◌∷◌, ◌++◌, map}
 use Rattle.query.specs.declared.node.Kind.{Kind}
 use Rattle.query.specs.declared.node.Kind.TheVariants.{Symbol, Any, Concat, Exact, Atleast, Atmost, In, Noless, Nomore, And, Or, Inorder}
-use Rattle.query.specs.Tree.{Query, node, Queries, none, more}
+use Rattle.query.specs.Tree.{Query, node, none, more}
 use Rattle.rules.specs.Applies.{applies}
 
 abbrev pub up : Query

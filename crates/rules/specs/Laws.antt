@@ -1,5 +1,5 @@
 -- Why each rule of tidying is sound: the query that it makes fits the same stretches. Assumes nothing.
-use Rattle.std.specs.Prelude.{◌≡◌, ℕ, ◌<◌, ◌≤◌, Bool, true, false, ◌||◌, List, length, ◌==◌}
+use Rattle.std.specs.Prelude.{◌≡◌, ℕ, ◌<◌, ◌≤◌, true, false, ◌||◌, List, length, ◌==◌}
 use Rattle.query.specs.declared.node.Kind.{Kind}
 use Rattle.query.specs.declared.node.Kind.TheVariants.{Any, Concat, Exact, Atleast, Atmost}
 use Rattle.query.specs.declared.node.Role.TheVariants.{Shape}

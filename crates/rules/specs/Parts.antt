@@ -1,5 +1,5 @@
 -- Parts put together, and what two alternatives become. Assumes nothing.
-use Rattle.std.specs.Prelude.{ℕ, min, max, Bool, true, false, cond, ◌&&◌, ◌||◌}
+use Rattle.std.specs.Prelude.{ℕ, min, max, cond, ◌||◌}
 use Rattle.query.specs.declared.node.Kind.{Kind}
 use Rattle.query.specs.declared.node.Kind.TheVariants.{Atleast, Atmost}
 use Rattle.query.specs.Kinds.{same_kind}

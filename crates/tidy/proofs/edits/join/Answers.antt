@@ -6,10 +6,10 @@ use Rattle.tidy.proofs.edits.join.Goals as goal
 
 pub cut-requires : goal.cut-requires
 cut-requires c =
-    let h = ends_inside c.args.sheet.now c.args.y c.part-end-end.result c.requires.later c.part-end-end.ensures in
+    let h = ends_inside c.args.sheet.now c.args.y c.part_end-end.result c.requires.later c.part_end-end.ensures in
     record { order = omega arith; inside = simp length-set h.1 }
 
 pub returns : goal.returns
 returns c =
-    join_made c.args.sheet.now c.cut.new.sheet c.args.i c.args.x c.args.y c.part-end-end.result c.args.kind c.args.number
-    c.part-end-end.ensures c.cut.ensures
+    join_made c.args.sheet.now c.cut.new.sheet c.args.i c.args.x c.args.y c.part_end-end.result c.args.kind c.args.number
+    c.part_end-end.ensures c.cut.ensures

@@ -3,14 +3,14 @@ use Rattle.tidy.proofs.Finding.{parts_stand}
 use Rattle.tidy.proofs.Changing.{pair_stands, join_change, clear_change, never_apart, nothing_joins}
 use Rattle.tidy.proofs.rules.joining_change.Goals as goal
 
-pub find-pair-requires : goal.find-pair-requires
-find-pair-requires c = record { stand = parts_stand c.args.records.now c.args.i c.requires.stands }
+pub find_pair-requires : goal.find_pair-requires
+find_pair-requires c = record { stand = parts_stand c.args.records.now c.args.i c.requires.stands }
 
-pub returns-in-default : goal.returns-in-default
-returns-in-default c = nothing_joins c.args.records.now c.args.i c.in-default.ensures
+pub returns-in_default : goal.returns-in_default
+returns-in_default c = nothing_joins c.args.records.now c.args.i c.in_default.ensures
 
-pub pair-outcome-requires : goal.pair-outcome-requires
-pair-outcome-requires c =
+pub pair_outcome-requires : goal.pair_outcome-requires
+pair_outcome-requires c =
     let st = pair_stands c.args.records.now c.args.i c.in-Some.x c.in-Some.y c.requires.gathers c.in-Some.ensures c.requires.stands in
     record { first = st.0; second = st.1 }
 

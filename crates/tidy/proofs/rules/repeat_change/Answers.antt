@@ -4,5 +4,5 @@ use Rattle.tidy.proofs.rules.repeat_change.Goals as goal
 
 pub returns : goal.returns
 returns c =
-    nested_change c.args.records.now c.args.i c.is-repeat-repeat.result c.stands-alone.result c.nested.result c.requires.strict
-    c.is-repeat-repeat.ensures c.stands-alone.ensures c.nested.ensures
+    nested_change c.args.records.now c.args.i c.is_repeat-repeat.result c.stands_alone.result c.nested.result c.requires.strict
+    c.is_repeat-repeat.ensures c.stands_alone.ensures c.nested.ensures

@@ -11,14 +11,14 @@ loop-k-init c =
     let w = cursor_start F c.args.records.now c.args.parts c.args.first in
     (cursor_room F c.args.records.now c.args.parts c.args.first 0 c.args.first w c.requires.stand, w)
 
-pub returns-then-is-wanted : goal.returns-then-is-wanted
-returns-then-is-wanted c =
+pub returns-then-is_wanted : goal.returns-then-is_wanted
+returns-then-is_wanted c =
     part_found (wants c.args.wanted) c.args.records.now c.args.parts c.args.first c.loop-k.k c.loop-k.next c.loop-k.invariant.1
     c.loop-k-test.true
-    (wanted_here c.args.wanted c.args.records.now c.loop-k.next _ c.if-is-wanted.ensures)
+    (wanted_here c.args.wanted c.args.records.now c.loop-k.next _ c.if-is_wanted.ensures)
 
-pub part-end-next-requires : goal.part-end-next-requires
-part-end-next-requires c = record {
+pub part_end-next-requires : goal.part_end-next-requires
+part_end-next-requires c = record {
   stands = cursor_stands (some_part (wants c.args.wanted)) c.args.records.now c.args.parts c.args.first c.loop-k.k c.loop-k.next c.loop-k.invariant.1
       c.loop-k-test.true c.requires.stand;
 }
@@ -26,9 +26,9 @@ part-end-next-requires c = record {
 pub loop-k-preserved : goal.loop-k-preserved
 loop-k-preserved c =
     let w = part_passed (wants c.args.wanted) c.args.records.now c.args.parts c.args.first c.loop-k.k c.loop-k.next c.loop-k.invariant.1
-    c.part-end-next.result c.loop-k-test.true c.part-end-next.ensures
-    (wanted_here c.args.wanted c.args.records.now c.loop-k.next _ c.if-is-wanted.ensures) in
-    (cursor_room (some_part (wants c.args.wanted)) c.args.records.now c.args.parts c.args.first (c.loop-k.k + 1) c.part-end-next.result w c.requires.stand, w)
+    c.part_end-next.result c.loop-k-test.true c.part_end-next.ensures
+    (wanted_here c.args.wanted c.args.records.now c.loop-k.next _ c.if-is_wanted.ensures) in
+    (cursor_room (some_part (wants c.args.wanted)) c.args.records.now c.args.parts c.args.first (c.loop-k.k + 1) c.part_end-next.result w c.requires.stand, w)
 
 pub returns : goal.returns
 returns c =

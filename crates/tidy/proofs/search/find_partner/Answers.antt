@@ -7,8 +7,8 @@ use Rattle.tidy.proofs.search.find_partner.Goals as goal
 pub loop-k-init : goal.loop-k-init
 loop-k-init c = λ q rest h. cursor_start (some_part (λ t. speaks (of_pair c.args.whole q t))) c.args.records.now c.args.parts c.args.first
 
-pub pair-outcome-requires : goal.pair-outcome-requires
-pair-outcome-requires c =
+pub pair_outcome-requires : goal.pair_outcome-requires
+pair_outcome-requires c =
     let e = c.requires.earlier in
     record {
       first = e;
@@ -16,14 +16,14 @@ pair-outcome-requires c =
           (c.loop-k.invariant e.1 e.2 e.3) c.loop-k-test.true c.requires.stand;
     }
 
-pub returns-then-is-spoken : goal.returns-then-is-spoken
-returns-then-is-spoken c = λ q rest h.
+pub returns-then-is_spoken : goal.returns-then-is_spoken
+returns-then-is_spoken c = λ q rest h.
     part_found (λ t. speaks (of_pair c.args.whole q t)) c.args.records.now c.args.parts c.args.first c.loop-k.k c.loop-k.next
     (c.loop-k.invariant q rest h) c.loop-k-test.true
-    (spoken_here c.args.records.now c.args.whole c.args.x c.loop-k.next _ _ c.pair-outcome.ensures c.if-is-spoken.ensures q rest h)
+    (spoken_here c.args.records.now c.args.whole c.args.x c.loop-k.next _ _ c.pair_outcome.ensures c.if-is_spoken.ensures q rest h)
 
-pub part-end-next-requires : goal.part-end-next-requires
-part-end-next-requires c =
+pub part_end-next-requires : goal.part_end-next-requires
+part_end-next-requires c =
     let e = c.requires.earlier in
     record {
       stands = cursor_stands (some_part (λ t. speaks (of_pair c.args.whole e.1 t))) c.args.records.now c.args.parts c.args.first c.loop-k.k c.loop-k.next
@@ -33,8 +33,8 @@ part-end-next-requires c =
 pub loop-k-preserved : goal.loop-k-preserved
 loop-k-preserved c = λ q rest h.
     part_passed (λ t. speaks (of_pair c.args.whole q t)) c.args.records.now c.args.parts c.args.first c.loop-k.k c.loop-k.next
-    (c.loop-k.invariant q rest h) c.part-end-next.result c.loop-k-test.true c.part-end-next.ensures
-    (spoken_here c.args.records.now c.args.whole c.args.x c.loop-k.next _ _ c.pair-outcome.ensures c.if-is-spoken.ensures q rest h)
+    (c.loop-k.invariant q rest h) c.part_end-next.result c.loop-k-test.true c.part_end-next.ensures
+    (spoken_here c.args.records.now c.args.whole c.args.x c.loop-k.next _ _ c.pair_outcome.ensures c.if-is_spoken.ensures q rest h)
 
 pub returns : goal.returns
 returns c = λ q rest h.

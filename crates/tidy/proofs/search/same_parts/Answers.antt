@@ -6,8 +6,8 @@ use Rattle.tidy.proofs.search.same_parts.Goals as goal
 pub returns-then-parts-records : goal.returns-then-parts-records
 returns-then-parts-records c = parts_differ c.args.records.now c.args.x c.args.y c.if-parts-records.true
 
-pub equal-rows-requires : goal.equal-rows-requires
-equal-rows-requires c = record {
+pub equal_rows-requires : goal.equal_rows-requires
+equal_rows-requires c = record {
   first = parts_stand c.args.records.now c.args.x c.requires.first;
   second =
       subst (λ (m : ℕ). Stand c.args.records.now m (c.args.y + 1)) (sym c.if-parts-records.false)
@@ -15,4 +15,4 @@ equal-rows-requires c = record {
 }
 
 pub returns : goal.returns
-returns c = parts_compared c.args.records.now c.args.x c.args.y c.equal-rows.result c.if-parts-records.false c.equal-rows.ensures
+returns c = parts_compared c.args.records.now c.args.x c.args.y c.equal_rows.result c.if-parts-records.false c.equal_rows.ensures

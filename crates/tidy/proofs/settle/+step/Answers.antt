@@ -9,8 +9,8 @@ use Rattle.tidy.proofs.settle.+step.Goals as goal
 pub loop-k-init : goal.loop-k-init
 loop-k-init t c = (refl, progress_start c.args.levels c.args.sheet.now c.args.i)
 
-pub overflow-sub-levels : goal.overflow-sub-levels
-overflow-sub-levels t c = within_deep c.args.levels c.args.sheet.now c.args.i c.requires.kept
+pub overflow_sub-levels : goal.overflow_sub-levels
+overflow_sub-levels t c = within_deep c.args.levels c.args.sheet.now c.args.i c.requires.kept
 
 pub step-requires : goal.step-requires
 step-requires t c =
@@ -22,19 +22,19 @@ step-requires t c =
 
 pub loop-k-preserved : goal.loop-k-preserved
 loop-k-preserved t c =
-    step_passed c.args.levels c.args.sheet.now c.step.new.sheet c.args.i c.loop-k.k c.loop-k.next c.in-ok-next.next c.requires.kept
+    step_passed c.args.levels c.args.sheet.now c.step.new.sheet c.args.i c.loop-k.k c.loop-k.next c.in_ok-next.next c.requires.kept
     c.loop-k.invariant.1 c.loop-k-test.true
-    (subst (λ (ns : List Node). Steps (c.args.levels - 1) ns c.step.new.sheet c.loop-k.next (Some c.in-ok-next.next)) c.loop-k.invariant.0
-    c.in-ok-next.ensures)
+    (subst (λ (ns : List Node). Steps (c.args.levels - 1) ns c.step.new.sheet c.loop-k.next (Some c.in_ok-next.next)) c.loop-k.invariant.0
+    c.in_ok-next.ensures)
 
-pub returns-in-err-next : goal.returns-in-err-next
-returns-in-err-next t c =
-    subst (Steps c.args.levels c.args.sheet.now c.step.new.sheet c.args.i) (sym c.from-residual.ensures)
+pub returns-in_err-next : goal.returns-in_err-next
+returns-in_err-next t c =
+    subst (Steps c.args.levels c.args.sheet.now c.step.new.sheet c.args.i) (sym c.from_residual.ensures)
     (step_inside c.args.levels c.args.sheet.now c.step.new.sheet c.args.i c.loop-k.k c.loop-k.next c.loop-k.invariant.1 c.loop-k-test.true
-    (subst (λ (ns : List Node). Steps (c.args.levels - 1) ns c.step.new.sheet c.loop-k.next None) c.loop-k.invariant.0 c.in-err-next.ensures))
+    (subst (λ (ns : List Node). Steps (c.args.levels - 1) ns c.step.new.sheet c.loop-k.next None) c.loop-k.invariant.0 c.in_err-next.ensures))
 
-pub find-change-requires : goal.find-change-requires
-find-change-requires t c = record {
+pub find_change-requires : goal.find_change-requires
+find_change-requires t c = record {
   kept =
       subst (λ (ns : List Node). Kept ns c.args.i) (sym c.loop-k.invariant.0)
       (within_kept c.args.levels c.args.sheet.now c.args.i c.requires.kept);

@@ -10,10 +10,10 @@ step-requires c = record { kept = settling_within c.args.sheet.now c.loop-end.sh
 pub loop-end-smaller : goal.loop-end-smaller
 loop-end-smaller c =
     settling_less c.loop-end.sheet c.step.new.sheet
-    (settling_within c.args.sheet.now c.loop-end.sheet c.loop-end.auto.sheet c.requires.kept c.loop-end.invariant) c.in-default.ensures
+    (settling_within c.args.sheet.now c.loop-end.sheet c.loop-end.auto.sheet c.requires.kept c.loop-end.invariant) c.in_default.ensures
 
 pub loop-end-preserved : goal.loop-end-preserved
-loop-end-preserved c = settling_more c.args.sheet.now c.loop-end.sheet c.step.new.sheet c.loop-end.invariant c.in-default.ensures
+loop-end-preserved c = settling_more c.args.sheet.now c.loop-end.sheet c.step.new.sheet c.loop-end.invariant c.in_default.ensures
 
 pub returns-in-Some : goal.returns-in-Some
 returns-in-Some c = settling_end c.args.sheet.now c.loop-end.sheet c.step.new.sheet c.in-Some.end c.loop-end.invariant c.in-Some.ensures
