@@ -126,7 +126,7 @@ fn records_and_symbols_of_a_window(rt: HostRuntime) -> Result<(), Fail> {
         return Err(Fail::new("not written"));
     };
     assert!(rt; length == 22);
-    assert!(rt; &out[0..22] == text && out[22] == b'.');
+    assert!(rt; &out[0..22] == text.as_slice() && out[22] == b'.');
     Ok(())
 }
 
