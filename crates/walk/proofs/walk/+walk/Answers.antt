@@ -17,8 +17,8 @@ use Rattle.wholes.proofs.Placing.{Reaches, reaches_start, reaches_more, reaches_
 use Rattle.walk.specs.Walk.{rule, rules as rules_of}
 use Rattle.walk.proofs.Walking.{Left, opened, lifted, count_window, rules_none}
 use Rattle.walk.proofs.Going.{shows_own, later_as, right_on, ready_at, one_part, as_symbol, as_any, as_concat, as_in, as_and, as_or, as_inorder, parts_in, some_parts, part_of_in, repeat_kind, as_repeat, as_count}
-use Rattle.walk.proofs.walk.+and_starts_any_concat_count_starts_inorder_starts_or_starts_own_starts_part_repeat_seen_starts_window.Goals as goal
-use Rattle.walk.proofs.walk.+and_starts_any_concat_count_starts_inorder_starts_or_starts_own_starts_part_repeat_seen_starts_window.Goals.{window-in-From, window-in-Own}
+use Rattle.walk.proofs.walk.+walk.Goals as goal
+use Rattle.walk.proofs.walk.+walk.Goals.{window-in-From, window-in-Own}
 
 pub and_starts-range-out-requires : goal.and_starts-range-out-requires
 and_starts-range-out-requires t c = let n = steps_few c.args.steps.now in let h = c.requires.high in search rules
