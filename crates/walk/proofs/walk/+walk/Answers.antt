@@ -1,4 +1,4 @@
-use Rattle.std.proofs.Common.{◌≡◌, ℕ, ◌+◌, ◌-◌, ◌<◌, ◌≤◌, List, length, get_or, sym, refl, subst, arith, rules}
+use Rattle.std.proofs.Common.{◌≡◌, ℕ, ◌+◌, ◌-◌, List, length, get_or, sym, refl, subst, arith, rules}
 use Rattle.query.specs.declared.node.Kind.TheVariants.{Any, Concat, And, Or, Inorder}
 use Rattle.query.specs.declared.node.Role.TheVariants.{Shape, Window, Count}
 use Rattle.query.specs.Stands.{at as query-at}
@@ -10,7 +10,7 @@ use Rattle.ends.specs.Member.{member}
 use Rattle.wholes.specs.declared.view.View.{View}
 use Rattle.wholes.specs.declared.view.View.TheVariants.{From, Own}
 use Rattle.wholes.specs.declared.view.Many.{Many}
-use Rattle.wholes.specs.Shows.{Shows, Later, Starts, repeated, counting}
+use Rattle.wholes.specs.Shows.{Shows, Starts, repeated, counting}
 use Rattle.wholes.specs.Turns.{at}
 use Rattle.wholes.proofs.Joining.{Either, either_more, either_all, Sequel, sequel_start, sequel_more, sequel_all, AnyStart, any_start_more, any_start_all, AllStart, all_start_more, all_start_all}
 use Rattle.wholes.proofs.Placing.{Reaches, reaches_start, reaches_more, reaches_all}
