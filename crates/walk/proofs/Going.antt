@@ -1,22 +1,22 @@
 -- What the walk through a query knows at each record, by its kind, and at each of its parts.
-use Rattle.std.proofs.Common.{◌≡◌, ℕ, zero, suc, ◌+◌, ◌-◌, ◌<◌, ◌≤◌, Bool, true, false, List, [], ◌∷◌, length, get_or, sym, refl, ap, ◌∙◌, subst, ap₂, arith}
+use Rattle.std.proofs.Common.{◌≡◌, ℕ, suc, ◌+◌, ◌-◌, ◌<◌, ◌≤◌, Bool, true, false, List, [], ◌∷◌, length, get_or, sym, refl, ap, ◌∙◌, subst, arith}
 use Rattle.std.proofs.lemmas.Bool.{false≢true, eqb-true, ltb-true}
 use Rattle.query.specs.declared.node.Kind.{Kind}
 use Rattle.query.specs.declared.node.Kind.TheVariants.{Symbol, Any, Concat, Exact, Atleast, Atmost, In, Precisely, Noless, Nomore, And, Or, Inorder}
 use Rattle.query.specs.declared.node.Node.{Node}
 use Rattle.query.specs.declared.node.Role.{Role}
-use Rattle.query.specs.declared.node.Role.TheVariants.{Shape, Window, Count}
+use Rattle.query.specs.declared.node.Role.TheVariants.{Shape, Window}
 use Rattle.query.specs.Rules.{allows, part_role, parts_right}
 use Rattle.query.specs.Stands.{at, next_at}
-use Rattle.shape.specs.Fits.{Rule, only, one_of, all_of, sequence, one_after_another, whole, fits}
+use Rattle.shape.specs.Fits.{Rule, one_of, all_of, sequence, one_after_another, whole, fits}
 use Rattle.tables.specs.declared.table.Table.{Table}
 use Rattle.wholes.specs.declared.view.View.{View}
-use Rattle.wholes.specs.declared.view.View.TheVariants.{From, Own}
+use Rattle.wholes.specs.declared.view.View.TheVariants.{Own}
 use Rattle.wholes.specs.declared.view.Many.{Many}
-use Rattle.wholes.specs.Shows.{seen_from, lowest, carrying, repeated, counting, windowed, Fit, Shows, Later}
+use Rattle.wholes.specs.Shows.{carrying, repeated, counting, windowed, Shows, Later}
 use Rattle.walk.specs.declared.kept.Kept.{Kept}
-use Rattle.walk.specs.Walk.{Stands, EachStands, rule, rules, many_of, repeats, Ready, Right, RightFrom}
-use Rattle.walk.proofs.Walking.{First, first, Opened, opened, lifted, Left, left_more, rules_more, rules_none}
+use Rattle.walk.specs.Walk.{Stands, EachStands, rule, rules, many_of, repeats, Ready, RightFrom}
+use Rattle.walk.proofs.Walking.{first, Opened, opened, lifted, Left, left_more, rules_more, rules_none}
 
 -- a table seen from each stretch's own start
 pub shows_own : (t : Table) (P : Rule) (v : View) (to n : ℕ) → v ≡ Own → to ≤ n → Shows t P Own n n → Shows t P v to n

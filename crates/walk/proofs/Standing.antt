@@ -1,11 +1,11 @@
 -- What is kept stays right while more is kept.
-use Rattle.std.proofs.Common.{◌≡◌, ℕ, zero, suc, ◌+◌, ◌-◌, ◌<◌, ◌≤◌, Bool, true, false, List, [], length, get_or, set, sym, refl, ap, ◌∙◌, subst, inl, inr, arith}
+use Rattle.std.proofs.Common.{◌≡◌, ℕ, suc, ◌+◌, ◌<◌, ◌≤◌, true, List, [], length, get_or, set, sym, ap, ◌∙◌, subst, inl, inr, arith}
 use Rattle.std.proofs.lemmas.List.{get_or-set_same, get_or-set_other}
-use Rattle.std.proofs.lemmas.Bool.{cases_eq, false≢true}
+use Rattle.std.proofs.lemmas.Bool.{cases_eq}
 use Rattle.query.specs.declared.node.Node.{Node}
 use Rattle.query.specs.declared.node.Role.{Role}
 use Rattle.query.specs.declared.node.Role.TheVariants.{Shape}
-use Rattle.query.specs.Rules.{allows, part_role}
+use Rattle.query.specs.Rules.{part_role}
 use Rattle.query.specs.Stands.{at, skips, next_at}
 use Rattle.shape.specs.Fits.{Rule}
 use Rattle.ends.specs.declared.Ends.{Ends}
@@ -16,7 +16,7 @@ use Rattle.wholes.specs.Shows.{Shows, Later, Stops}
 use Rattle.walk.specs.declared.kept.Kept.{Kept}
 use Rattle.walk.specs.Walk.{Stands, EachStands, Somehow, rule, many_of, repeats, Ready, Right, RightFrom, KeptNext, KeptRepeat, KeptOwn}
 use Rattle.walk.proofs.Going.{only_part, repeat_part}
-use Rattle.walk.proofs.Walking.{First, first, Opened, opened, lifted, Left, left_more}
+use Rattle.walk.proofs.Walking.{first, opened, lifted, Left, left_more}
 
 ready_same : (k l : Kept) (ns : List Node) (words : List ℕ) (x : ℕ) → ((d : Table) → get_or l.later x d ≡ get_or k.later x d) →
     get_or l.stops x nothing ≡ get_or k.stops x nothing → Ready k ns words x → Ready l ns words x

@@ -1,18 +1,16 @@
 -- The parts of a query that stands in records.
-use Rattle.std.proofs.Common.{◌≡◌, ℕ, zero, suc, ◌+◌, ◌-◌, ◌<◌, ◌≤◌, Bool, true, false, ◌&&◌, eqb, ltb, leb, ◌⊎◌, List, [], ◌∷◌, ◌++◌, length, get_or, drop, Some, None, Option, sym, refl, ap, ◌∙◌, subst, ap₂, inl, inr, arith}
+use Rattle.std.proofs.Common.{◌≡◌, ℕ, zero, suc, ◌+◌, ◌-◌, ◌<◌, ◌≤◌, true, ◌&&◌, ltb, leb, List, [], ◌∷◌, length, drop, Some, None, Option, sym, refl, ap, ◌∙◌, subst, ap₂, inl, inr, arith}
 use Rattle.std.proofs.lemmas.Bool.{and_parts, and_from, false≢true, cases_lt, cases_eq, lt-ltb, leb-true, eqb-true, cond-true}
-use Rattle.query.specs.declared.node.Kind.{Kind}
-use Rattle.query.specs.declared.node.Kind.TheVariants.{Symbol, Any, Concat, Exact, Atleast, Atmost, In, Precisely, Noless, Nomore, And, Or, Inorder}
 use Rattle.query.specs.declared.node.Node.{Node}
 use Rattle.query.specs.declared.node.Role.{Role}
 use Rattle.query.specs.declared.node.Role.TheVariants.{Shape, Window, Count}
 use Rattle.query.specs.declared.node.Stage.{Stage}
 use Rattle.query.specs.Kinds.{kind_number}
-use Rattle.query.specs.Tree.{Query, node, Queries, none, more, records}
-use Rattle.query.specs.Rules.{allows, part_role, parts_right, number_right, record_right}
-use Rattle.query.specs.Stands.{at, skips, parts_from, next_at, tree_at, and_then, ends, end_at, is_at, is_query, query_in}
+use Rattle.query.specs.Tree.{Query, node, more, records}
+use Rattle.query.specs.Rules.{allows, part_role, parts_right, record_right}
+use Rattle.query.specs.Stands.{at, skips, parts_from, next_at, tree_at, and_then, ends, end_at, is_at, is_query}
 use Rattle.query.proofs.Standing.{sound, found, end_parts}
-use Rattle.shape.specs.Fits.{Rule, fits, fits_each}
+use Rattle.shape.specs.Fits.{fits}
 use Rattle.walk.specs.Walk.{Stands, EachStands, rule, rules}
 
 none_some : {A : Type 0} (j : ℕ) → ◌≡◌ {A = Option ℕ} None (Some j) → A

@@ -32,7 +32,7 @@ pub(crate) fn many_of(node: Node) -> Many
 }
 
 // What the part at record i fits: from what is kept where each stretch is seen from its own start, else by going down.
-#[cycle(and_starts_any_concat_count_starts_inorder_starts_or_starts_own_starts_part_repeat_seen_starts_window)]
+#[cycle(walk)]
 fn part(
     records: &[Node],
     steps: &Steps,
@@ -57,7 +57,7 @@ fn part(
 }
 
 // What the query at record i fits in this view, up to a position.
-#[cycle(and_starts_any_concat_count_starts_inorder_starts_or_starts_own_starts_part_repeat_seen_starts_window)]
+#[cycle(walk)]
 pub fn seen(
     records: &[Node],
     steps: &Steps,
@@ -117,7 +117,7 @@ pub fn seen(
 }
 
 // One of the parts.
-#[cycle(and_starts_any_concat_count_starts_inorder_starts_or_starts_own_starts_part_repeat_seen_starts_window)]
+#[cycle(walk)]
 fn any(
     records: &[Node],
     steps: &Steps,
@@ -147,7 +147,7 @@ fn any(
 }
 
 // The parts in sequence: the first in this view, each later one seen from its own start.
-#[cycle(and_starts_any_concat_count_starts_inorder_starts_or_starts_own_starts_part_repeat_seen_starts_window)]
+#[cycle(walk)]
 fn concat(
     records: &[Node],
     steps: &Steps,
@@ -176,7 +176,7 @@ fn concat(
 }
 
 // The repeat at record i: its first piece in this view, and what may follow it.
-#[cycle(and_starts_any_concat_count_starts_inorder_starts_or_starts_own_starts_part_repeat_seen_starts_window)]
+#[cycle(walk)]
 fn repeat(
     records: &[Node],
     steps: &Steps,
@@ -204,7 +204,7 @@ fn repeat(
 }
 
 // The windows of a length of which the condition at record i holds.
-#[cycle(and_starts_any_concat_count_starts_inorder_starts_or_starts_own_starts_part_repeat_seen_starts_window)]
+#[cycle(walk)]
 fn window(
     records: &[Node],
     steps: &Steps,
@@ -232,7 +232,7 @@ fn window(
 }
 
 // The starts of the windows of which the condition holds seen from the window's own start.
-#[cycle(and_starts_any_concat_count_starts_inorder_starts_or_starts_own_starts_part_repeat_seen_starts_window)]
+#[cycle(walk)]
 fn own_starts(
     records: &[Node],
     steps: &Steps,
@@ -259,7 +259,7 @@ fn own_starts(
 }
 
 // The starts of the windows of which the condition at record i holds, seen from s.
-#[cycle(and_starts_any_concat_count_starts_inorder_starts_or_starts_own_starts_part_repeat_seen_starts_window)]
+#[cycle(walk)]
 fn starts(
     records: &[Node],
     steps: &Steps,
@@ -331,7 +331,7 @@ fn starts(
 }
 
 // The starts of the windows that have so many stretches of the part inside.
-#[cycle(and_starts_any_concat_count_starts_inorder_starts_or_starts_own_starts_part_repeat_seen_starts_window)]
+#[cycle(walk)]
 fn count_starts(
     records: &[Node],
     steps: &Steps,
@@ -365,7 +365,7 @@ fn count_starts(
 }
 
 // The starts of the windows of which all parts hold.
-#[cycle(and_starts_any_concat_count_starts_inorder_starts_or_starts_own_starts_part_repeat_seen_starts_window)]
+#[cycle(walk)]
 fn and_starts(
     records: &[Node],
     steps: &Steps,
@@ -394,7 +394,7 @@ fn and_starts(
 }
 
 // The starts of the windows of which one of the parts holds.
-#[cycle(and_starts_any_concat_count_starts_inorder_starts_or_starts_own_starts_part_repeat_seen_starts_window)]
+#[cycle(walk)]
 fn or_starts(
     records: &[Node],
     steps: &Steps,
@@ -423,7 +423,7 @@ fn or_starts(
 }
 
 // The starts of the windows in which the parts fit one after another.
-#[cycle(and_starts_any_concat_count_starts_inorder_starts_or_starts_own_starts_part_repeat_seen_starts_window)]
+#[cycle(walk)]
 fn inorder_starts(
     records: &[Node],
     steps: &Steps,

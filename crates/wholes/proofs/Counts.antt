@@ -1,5 +1,5 @@
 -- Symbols, counts and windows as tables show them.
-use Rattle.std.proofs.Common.{◌≡◌, ℕ, zero, suc, ◌+◌, ◌-◌, ◌<◌, ◌≤◌, Bool, true, false, cond, ◌&&◌, ◌||◌, eqb, ltb, leb, ◌⊎◌, List, [], ◌∷◌, ◌++◌, length, get_or, Decides, sym, refl, ap, ◌∙◌, subst, ap₂, inl, inr, arith}
+use Rattle.std.proofs.Common.{◌≡◌, ℕ, zero, suc, ◌+◌, ◌-◌, ◌<◌, ◌≤◌, Bool, true, cond, ◌&&◌, ◌||◌, eqb, ltb, leb, List, ◌∷◌, ◌++◌, length, get_or, Decides, sym, refl, ap, ◌∙◌, subst, ap₂, inl, inr, arith}
 use Rattle.std.proofs.lemmas.List.{get_or_past}
 use Rattle.std.proofs.lemmas.Bool.{or_cases, or_left, or_right, and_parts, and_from, false≢true, eqb-true, eq-eqb, cases_eq, cases_lt}
 use Rattle.std.proofs.lemmas.Bool.Decides.{nat_tests, same_from_decides}
@@ -13,9 +13,9 @@ use Rattle.ends.specs.Member.{member}
 use Rattle.tables.specs.declared.table.Table.{Table}
 use Rattle.tables.specs.Holds.{holds, Held}
 use Rattle.wholes.specs.declared.view.View.{View}
-use Rattle.wholes.specs.declared.view.View.TheVariants.{From, Own}
+use Rattle.wholes.specs.declared.view.View.TheVariants.{From}
 use Rattle.wholes.specs.declared.view.Many.{Many}
-use Rattle.wholes.specs.Shows.{seen_from, lowest, allowed, carrying, counting, windowed, Fit, Shows, Starts}
+use Rattle.wholes.specs.Shows.{seen_from, lowest, allowed, carrying, counting, windowed, Shows, Starts}
 
 -- a stretch is put into a table, or passed over, where a test says so
 pub placed_in : (Q : ℕ → ℕ → Type 0) (old new : ℕ → ℕ → Bool) (a b : ℕ) → Q a b → ((y : ℕ) → Q a y → y ≡ b) →

@@ -1,5 +1,5 @@
 -- What it means that a table shows which stretches a rule fits. Assumes nothing.
-use Rattle.std.specs.Prelude.{◌≡◌, ℕ, suc, ◌+◌, ◌<◌, ◌≤◌, Bool, true, ◌&&◌, ◌⊎◌, List, [], length, Decides, ◌==◌, ◌≢◌, nat_le, slice_index}
+use Rattle.std.specs.Prelude.{◌≡◌, ℕ, suc, ◌+◌, ◌<◌, ◌≤◌, Bool, true, ◌&&◌, ◌⊎◌, List, length, Decides, ◌==◌, ◌≢◌, nat_le, slice_index}
 use Rattle.word.specs.Words.{has}
 use Rattle.shape.specs.Fits.{Rule, exactly, at_least, at_most, times}
 use Rattle.shape.specs.Laws.{Pieces}

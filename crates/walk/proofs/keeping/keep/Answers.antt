@@ -1,5 +1,4 @@
-use Rattle.std.proofs.Common.{◌≡◌, ℕ, ◌+◌, ◌≤◌, sym, refl, subst, arith, rules}
-use Rattle.query.specs.Stands.{next_at}
+use Rattle.std.proofs.Common.{ℕ, subst, arith, rules}
 use Rattle.steps.specs.Meaning.{steps_of}
 use Rattle.walk.specs.Walk.{KeptNext}
 use Rattle.walk.proofs.Walking.{opened}

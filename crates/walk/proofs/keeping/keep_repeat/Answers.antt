@@ -1,7 +1,6 @@
-use Rattle.std.proofs.Common.{◌≡◌, ℕ, ◌+◌, ◌≤◌, length, sym, refl, ◌∙◌, subst, arith, rules}
+use Rattle.std.proofs.Common.{ℕ, ◌+◌, length, sym, refl, ◌∙◌, subst, arith, rules}
 use Rattle.query.specs.declared.node.Role.TheVariants.{Shape}
 use Rattle.steps.specs.Meaning.{steps_of}
-use Rattle.steps.proofs.Length.{steps_few}
 use Rattle.wholes.specs.declared.view.Many.{Many}
 use Rattle.wholes.specs.Shows.{Later, Stops}
 use Rattle.walk.specs.Walk.{rule}

@@ -1,4 +1,4 @@
-use Rattle.std.proofs.Common.{◌+◌, ◌-◌, get_or, refl, arith, rules}
+use Rattle.std.proofs.Common.{◌+◌, ◌-◌, get_or, arith, rules}
 use Rattle.query.specs.Stands.{at}
 use Rattle.walk.proofs.Walking.{opened}
 use Rattle.walk.proofs.Standing.{leads_start, leads_here, leads_more, leads_all}

@@ -1,7 +1,7 @@
-use Rattle.std.proofs.Common.{◌≡◌, ◌+◌, ◌-◌, ◌≤◌, ap, subst, arith, rules}
+use Rattle.std.proofs.Common.{◌≡◌, ◌+◌, ◌-◌, subst, rules}
 use Rattle.ends.specs.Member.{member}
-use Rattle.tables.specs.Holds.{holds, within}
-use Rattle.tables.proofs.Linking.{ClosedFrom, closed_none, closed_more, closed_all}
+use Rattle.tables.specs.Holds.{within}
+use Rattle.tables.proofs.Linking.{ClosedFrom, closed_more}
 use Rattle.tables.proofs.table.Table.closure.Goals as goal
 
 pub loop-a-preserved : goal.loop-a-preserved

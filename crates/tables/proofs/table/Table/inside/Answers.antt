@@ -1,4 +1,4 @@
-use Rattle.std.proofs.Common.{◌≡◌, ℕ, ◌-◌, ◌≤◌, ◌&&◌, length, sym, refl, ap, ◌∙◌, arith, rules}
+use Rattle.std.proofs.Common.{◌≡◌, ℕ, ◌-◌, ◌≤◌, ◌&&◌, length, ap, ◌∙◌, arith, rules}
 use Rattle.ends.specs.Member.{member, tally}
 use Rattle.ends.proofs.Tallies.{tally_le, tally_same}
 use Rattle.shape.specs.Ranges.{rows_from}

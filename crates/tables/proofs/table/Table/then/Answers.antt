@@ -1,5 +1,4 @@
-use Rattle.std.proofs.Common.{arith, rules}
-use Rattle.tables.specs.Holds.{within}
+use Rattle.std.proofs.Common.{rules}
 use Rattle.tables.proofs.Grid.{joined_more, joined_all}
 use Rattle.tables.proofs.table.Table.then.Goals as goal
 

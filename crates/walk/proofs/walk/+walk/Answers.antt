@@ -1,4 +1,4 @@
-use Rattle.std.proofs.Common.{◌≡◌, ℕ, ◌+◌, ◌-◌, ◌<◌, ◌≤◌, List, length, get_or, sym, refl, subst, arith, rules}
+use Rattle.std.proofs.Common.{◌≡◌, ℕ, ◌+◌, ◌-◌, List, length, get_or, sym, refl, subst, arith, rules}
 use Rattle.query.specs.declared.node.Kind.TheVariants.{Any, Concat, And, Or, Inorder}
 use Rattle.query.specs.declared.node.Role.TheVariants.{Shape, Window, Count}
 use Rattle.query.specs.Stands.{at as query-at}
@@ -10,15 +10,15 @@ use Rattle.ends.specs.Member.{member}
 use Rattle.wholes.specs.declared.view.View.{View}
 use Rattle.wholes.specs.declared.view.View.TheVariants.{From, Own}
 use Rattle.wholes.specs.declared.view.Many.{Many}
-use Rattle.wholes.specs.Shows.{Shows, Later, Starts, repeated, counting}
+use Rattle.wholes.specs.Shows.{Shows, Starts, repeated, counting}
 use Rattle.wholes.specs.Turns.{at}
 use Rattle.wholes.proofs.Joining.{Either, either_more, either_all, Sequel, sequel_start, sequel_more, sequel_all, AnyStart, any_start_more, any_start_all, AllStart, all_start_more, all_start_all}
 use Rattle.wholes.proofs.Placing.{Reaches, reaches_start, reaches_more, reaches_all}
 use Rattle.walk.specs.Walk.{rule, rules as rules_of}
 use Rattle.walk.proofs.Walking.{Left, opened, lifted, count_window, rules_none}
 use Rattle.walk.proofs.Going.{shows_own, later_as, right_on, ready_at, one_part, as_symbol, as_any, as_concat, as_in, as_and, as_or, as_inorder, parts_in, some_parts, part_of_in, repeat_kind, as_repeat, as_count}
-use Rattle.walk.proofs.walk.+and_starts_any_concat_count_starts_inorder_starts_or_starts_own_starts_part_repeat_seen_starts_window.Goals as goal
-use Rattle.walk.proofs.walk.+and_starts_any_concat_count_starts_inorder_starts_or_starts_own_starts_part_repeat_seen_starts_window.Goals.{window-in-From, window-in-Own}
+use Rattle.walk.proofs.walk.+walk.Goals as goal
+use Rattle.walk.proofs.walk.+walk.Goals.{window-in-From, window-in-Own}
 
 pub and_starts-range-out-requires : goal.and_starts-range-out-requires
 and_starts-range-out-requires t c = let n = steps_few c.args.steps.now in let h = c.requires.high in search rules

@@ -8,7 +8,7 @@ use Rattle.wholes.proofs.Joining.{Either, Sequel, AnyStart, AllStart}
 use Rattle.wholes.proofs.Placing.{Reaches}
 use Rattle.walk.specs.Walk.{rule, rules}
 use Rattle.walk.proofs.Walking.{Left}
-use Rattle.walk.proofs.walk.+and_starts_any_concat_count_starts_inorder_starts_or_starts_own_starts_part_repeat_seen_starts_window.Given as goal
+use Rattle.walk.proofs.walk.+walk.Given as goal
 
 abbrev pub decreases-and_starts : goal.decreases-and_starts
 decreases-and_starts l = 4 * l.levels + 3
