@@ -23,6 +23,9 @@ use Rattle.book.specs.Rows.{formed_none}
 pub size_is : (rows : List Row) (n : ℕ) → length (table_words rows n) ≡ n
 size_is rows n = length-map-range_with_len (word_at rows) 0 n
 
+pub short : (rows : List Row) (n : ℕ) → n ≤ 255 → length (table_words rows n) ≤ 255
+short rows n small = rw size_is small
+
 word_is : (rows : List Row) (n t : ℕ) → t < n → slice_index (table_words rows n) t ≡ word_at rows t
 word_is rows n t inside = get_or-map-range_with_len (word_at rows) 0 n t t 0 inside (omega arith)
 

@@ -5,8 +5,6 @@ ghost use Rattle.word.specs.Words.{has};
 ghost use Rattle.book.specs.Runs.{Pushed, Popped};
 ghost use Rattle.book.specs.Tables.{runs_of, Formed, table_words};
 ghost use Rattle.book.specs.Words.{run_from};
-ghost use Rattle.std.proofs.Common.{arith};
-ghost use Rattle.book.specs.TablesLemmas.{size_is};
 ghost use Rattle.book.specs.TablesLemmas as Tables;
 
 use crate::RunBook;
@@ -75,7 +73,7 @@ impl RunTable {
 impl RunBook for RunTable {
     ghost words = { λ b. table_words b.rows b.size };
 
-    ghost short = { λ b. omega (arith, size_is b.rows b.size, b.short) };
+    ghost short = { λ b. Tables.short b.rows b.size b.short };
 
     ghost narrow = { λ b. Tables.narrow b.rows b.size };
 

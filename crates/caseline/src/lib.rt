@@ -4,6 +4,7 @@
 
 ghost use Rattle.std.specs.Prelude.{◌≡◌, ◌<◌, pos, slice_index_or};
 ghost use Rattle.caseline.specs.Cases.{CasesHold, LookAlikesHold};
+ghost use Rattle.caseline.specs.Texts.{TextsGiveCases, TextsGiveLookAlikes};
 ghost use Rattle.caseline.specs.Line.{case_values, case_words};
 
 use alphabet::Alphabet;
@@ -42,4 +43,10 @@ pub fn cases_hold()
 /// Shapes that are easily mistaken for others fit just what the rules say.
 pub fn look_alikes_hold()
     ensures { LookAlikesHold }
+{}
+
+/// The texts of these shapes, read and bound by the alphabet of the case line, give them.
+pub fn texts_give_shapes()
+    ensures cases { TextsGiveCases }
+    ensures look_alikes { TextsGiveLookAlikes }
 {}

@@ -1,7 +1,6 @@
 -- What is counted over the words agrees with what is kept in mind while they are read.
-use Rattle.std.proofs.Common.{◌≡◌, ℕ, zero, suc, pred, ◌+◌, Bool, true, false, cond, ◌&&◌, ltb, leb, List, [], ◌∷◌, ◌++◌, length, Some, None, Option, sym, refl, ap, ◌∙◌, subst, ap₂, add-zero, add-one, arith}
+use Rattle.std.proofs.Common.{◌≡◌, ℕ, zero, suc, pred, ◌+◌, Bool, true, false, cond, ◌&&◌, ltb, leb, List, [], ◌∷◌, ◌++◌, length, Some, None, Option, sym, refl, ap, ◌∙◌, subst, ap₂, arith}
 use Rattle.std.proofs.lemmas.List.{length-append}
-use Rattle.std.proofs.lemmas.Bool.{cond-true, cond-false}
 use Rattle.query.specs.declared.node.Kind.{Kind}
 use Rattle.query.specs.declared.node.Kind.TheVariants.{Symbol, Any, Concat, Exact, Atleast, Atmost, In, Precisely, Noless, Nomore, And, Or, Inorder}
 use Rattle.query.specs.declared.node.Node.{Node}
@@ -13,7 +12,7 @@ use Rattle.grammar.specs.declared.types.Need.TheVariants.{Number, One, Least, Mo
 use Rattle.grammar.specs.declared.types.Level.{Level}
 use Rattle.grammar.specs.declared.types.Point.{Point}
 use Rattle.grammar.specs.declared.types.Point.TheVariants.{Start, Opened, Inside}
-use Rattle.grammar.specs.Names.{kind_named, natural, small}
+use Rattle.grammar.specs.Names.{kind_named, natural}
 use Rattle.grammar.specs.Spelling.{Said, lparen, rparen, counts, names, Placed, said_by, is_symbol}
 use Rattle.grammar.specs.Limits.{Tally, nothing, note, note_all, is_in, level_of, number_fits, name_fits}
 use Rattle.grammar.specs.Machine.{State, state, level, first_need, after_part, change, counted, numbered, fresh, begun, begin, begin_at, open_part, leaf, head, count_need, count_at, close_need, close_at, move, start, number_right, room}

@@ -1,6 +1,6 @@
 -- The words of a query are read, one after another, into its records.
-use Rattle.std.proofs.Common.{◌≡◌, ℕ, zero, suc, ◌+◌, ◌<◌, ◌≤◌, min, Bool, true, false, cond, ◌&&◌, eqb, ltb, List, [], ◌∷◌, ◌++◌, length, Some, None, Option, sym, refl, ap, ◌∙◌, subst, ap₂, append_assoc, append-nil, zero-add, arith}
-use Rattle.std.proofs.lemmas.Bool.{and_parts, and_from, cond-true, cond-false, eqb-true, ltb-true, false≢true}
+use Rattle.std.proofs.Common.{◌≡◌, ℕ, zero, suc, ◌+◌, ◌≤◌, min, Bool, true, false, cond, ◌&&◌, eqb, ltb, List, [], ◌∷◌, ◌++◌, length, Some, None, Option, sym, refl, ap, ◌∙◌, subst, ap₂, append_assoc, append-nil, zero-add, arith}
+use Rattle.std.proofs.lemmas.Bool.{and_parts, cond-true, cond-false, eqb-true, ltb-true, false≢true}
 use Rattle.query.specs.declared.node.Kind.{Kind}
 use Rattle.query.specs.declared.node.Kind.TheVariants.{Symbol, Any, Concat, Exact, Atleast, Atmost, In, Precisely, Noless, Nomore, And, Or, Inorder}
 use Rattle.query.specs.declared.node.Node.{Node}
@@ -13,7 +13,7 @@ use Rattle.grammar.specs.declared.types.Level.{Level}
 use Rattle.grammar.specs.declared.types.Point.{Point}
 use Rattle.grammar.specs.declared.types.Point.TheVariants.{Start, Opened, Inside}
 use Rattle.grammar.specs.Spelling.{Said, lparen, rparen, counts, names, is_symbol, takes_number, number_words, spell, spell_each, number_free, formed, formed_each}
-use Rattle.grammar.specs.Machine.{State, state, level, first_need, after_part, change, counted, numbered, fresh, begun, begin, begin_at, open_part, leaf, head, count_need, close_need, move}
+use Rattle.grammar.specs.Machine.{State, state, level, first_need, after_part, change, counted, numbered, begun, begin, begin_at, open_part, leaf, head, close_need, move}
 
 -- one word more, where the words before were read
 abbrev pub move_on : Option State → Said → Option State

@@ -1,6 +1,6 @@
 -- The words that can be read to the end are those of the queries, and whatever was read can be continued to such.
-use Rattle.std.proofs.Common.{◌≡◌, ℕ, suc, Bool, true, false, cond, ◌&&◌, eqb, ltb, List, [], ◌∷◌, ◌++◌, length, Some, None, Option, sym, refl, ap, ◌∙◌, subst, arith}
-use Rattle.std.proofs.lemmas.Bool.{and_from, cond-true, cond-false, eqb-true, eq-eqb, lt-ltb, false≢true}
+use Rattle.std.proofs.Common.{◌≡◌, ℕ, suc, Bool, true, false, cond, eqb, ltb, List, [], ◌∷◌, ◌++◌, length, Some, None, Option, sym, refl, ap, ◌∙◌, subst, arith}
+use Rattle.std.proofs.lemmas.Bool.{and_from, cond-true, eqb-true, eq-eqb, lt-ltb, false≢true}
 use Rattle.query.specs.declared.node.Kind.{Kind}
 use Rattle.query.specs.declared.node.Kind.TheVariants.{Symbol, Any, Concat, Exact, Atleast, Atmost, In, Precisely, Noless, Nomore, And, Or, Inorder}
 use Rattle.query.specs.declared.node.Node.{Node}
@@ -14,8 +14,8 @@ use Rattle.grammar.specs.declared.types.Level.{Level}
 use Rattle.grammar.specs.declared.types.Point.{Point}
 use Rattle.grammar.specs.declared.types.Point.TheVariants.{Start, Opened, Inside}
 use Rattle.grammar.specs.Spelling.{Said, lparen, rparen, counts, names, is_symbol, spell, spell_each, number_free, formed, formed_each, Follows, Begins}
-use Rattle.grammar.specs.Machine.{State, state, level, first_need, after_part, change, numbered, fresh, begun, begin, begin_at, open_part, leaf, head, count_need, count_at, close_need, close_at, move, start, done, done_at}
-use Rattle.grammar.proofs.Forward.{moves, move_on, moves_append, moves_none, none_some, some_same, begins_inside, written, forward}
+use Rattle.grammar.specs.Machine.{State, state, level, first_need, after_part, fresh, begun, begin, begin_at, open_part, leaf, head, count_need, count_at, close_need, close_at, move, start, done, done_at}
+use Rattle.grammar.proofs.Forward.{moves, moves_append, moves_none, none_some, some_same, begins_inside, written, forward}
 
 -- so many parts are what is still wanted
 abbrev takes : Need → ℕ → Bool

@@ -1,11 +1,11 @@
 -- A run over words stops at the first that is wrong, for just what is wrong with it.
-use Rattle.std.proofs.Common.{◌≡◌, ℕ, Bool, true, false, cond, ◌&&◌, List, [], ◌∷◌, ◌++◌, length, Some, None, Ok, Err, Option, Result, sym, refl, ap, ◌∙◌, subst, ap₂, arith}
+use Rattle.std.proofs.Common.{◌≡◌, ℕ, Bool, true, false, cond, List, [], ◌∷◌, ◌++◌, Some, None, Ok, Err, Option, Result, sym, refl, ap, ◌∙◌, subst, arith}
 use Rattle.std.proofs.lemmas.Bool.{and_parts, and_from, cond-true, cond-false, both_ways}
 use Rattle.words.specs.Words.{Lexeme, name, number, opens, closes}
 use Rattle.grammar.specs.declared.types.GrammarFault.{GrammarFault}
-use Rattle.grammar.specs.declared.types.GrammarFault.TheVariants.{Unexpected, Ended, Number, Limit}
-use Rattle.grammar.specs.Spelling.{Said, Placed, said, said_by, Follows, Begins}
-use Rattle.grammar.specs.Limits.{Tally, nothing, note, note_all, tally, number_fits, name_fits, fits, all_fit}
+use Rattle.grammar.specs.declared.types.GrammarFault.TheVariants.{Unexpected, Number, Limit}
+use Rattle.grammar.specs.Spelling.{Placed, said, said_by, Follows}
+use Rattle.grammar.specs.Limits.{Tally, nothing, note, tally, number_fits, name_fits, fits, all_fit}
 use Rattle.grammar.specs.Machine.{State, move, number_right, room, checked, step, and_then, run, start, done}
 use Rattle.grammar.specs.Reading.{Right, First, Goes_on, Stuck, NumberWrong, OverLimit, Why}
 use Rattle.grammar.proofs.Forward.{moves, moves_append, moves_none, none_some, some_same}

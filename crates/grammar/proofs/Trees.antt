@@ -1,21 +1,19 @@
 -- The limits told of words and those told of the query that they spell are the same.
-use Rattle.std.proofs.Common.{◌≡◌, ℕ, zero, suc, pred, ◌+◌, ◌≤◌, min, max, Bool, true, false, cond, not, ◌&&◌, eqb, ltb, leb, List, [], ◌∷◌, ◌++◌, length, Some, None, Ok, Err, sym, refl, ap, ◌∙◌, subst, ap₂, inl, inr, zero-add, arith}
+use Rattle.std.proofs.Common.{◌≡◌, ℕ, suc, pred, ◌+◌, ◌≤◌, min, max, Bool, true, false, cond, not, ◌&&◌, eqb, ltb, leb, List, [], ◌∷◌, ◌++◌, length, Some, Ok, sym, refl, ap, ◌∙◌, subst, ap₂, inl, inr, zero-add, arith}
 use Rattle.std.proofs.lemmas.List.{length-append}
-use Rattle.std.proofs.lemmas.Bool.{and_parts, and_from, cond-true, cond-false, eqb-true, eq-eqb, ne_eqb, leb-true, le-leb, ltb-true, lt-ltb, le-ltb, cases_eq, false≢true}
+use Rattle.std.proofs.lemmas.Bool.{and_parts, and_from, cond-true, cond-false, ne_eqb, leb-true, le-leb, ltb-true, lt-ltb, cases_eq, false≢true}
 use Rattle.query.specs.declared.node.Kind.{Kind}
 use Rattle.query.specs.declared.node.Kind.TheVariants.{Symbol, Any, Concat, Exact, Atleast, Atmost, In, Precisely, Noless, Nomore, And, Or, Inorder}
-use Rattle.query.specs.declared.node.Node.{Node}
 use Rattle.query.specs.declared.node.Role.{Role}
 use Rattle.query.specs.declared.node.Role.TheVariants.{Shape}
-use Rattle.query.specs.declared.node.Stage.{Stage}
 use Rattle.query.specs.declared.node.Stage.TheVariants.{Read}
 use Rattle.query.specs.Tree.{Query, node, Queries, none, more, count, records, records_each, levels, levels_each}
 use Rattle.query.specs.Rules.{allows, part_role, parts_right, number_right, record_right, keeps, keeps_each, well}
-use Rattle.words.specs.Words.{Lexeme, name, number, opens, closes, size}
+use Rattle.words.specs.Words.{name, number, opens, closes, size}
 use Rattle.grammar.specs.declared.types.Point.TheVariants.{Inside}
 use Rattle.grammar.specs.Names.{kind_named, natural, extra_zero, small}
-use Rattle.grammar.specs.Spelling.{Said, lparen, rparen, counts, names, Placed, said, said_by, is_symbol, takes_number, number_words, spell, spell_each, number_free, formed, formed_each}
-use Rattle.grammar.specs.Limits.{Tally, nothing, note, is_in, level_of, number_fits, name_fits, fits, all_fit}
+use Rattle.grammar.specs.Spelling.{Said, lparen, rparen, counts, names, Placed, said, is_symbol, takes_number, number_words, spell, spell_each, number_free, formed, formed_each}
+use Rattle.grammar.specs.Limits.{Tally, nothing, note, is_in, level_of, number_fits, name_fits, all_fit}
 use Rattle.grammar.specs.Machine.{State, state, run, start, done}
 use Rattle.grammar.specs.Reading.{plain, Spells}
 use Rattle.grammar.proofs.Forward.{moves, written, written_each, symbol_has, some_same}

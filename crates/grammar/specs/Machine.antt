@@ -13,7 +13,7 @@ use Rattle.grammar.specs.declared.types.Level.{Level}
 use Rattle.grammar.specs.declared.types.Point.{Point}
 use Rattle.grammar.specs.declared.types.Point.TheVariants.{Start, Opened, Inside}
 use Rattle.grammar.specs.declared.types.GrammarFault.{GrammarFault}
-use Rattle.grammar.specs.declared.types.GrammarFault.TheVariants.{Unexpected, Ended, Number as Number-fault, Limit}
+use Rattle.grammar.specs.declared.types.GrammarFault.TheVariants.{Unexpected, Number as Number-fault, Limit}
 use Rattle.grammar.specs.Names.{small, natural}
 use Rattle.grammar.specs.Spelling.{Said, lparen, rparen, counts, names, Placed, said_by, is_symbol}
 use Rattle.grammar.specs.Limits.{is_in}

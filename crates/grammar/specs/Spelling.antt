@@ -1,5 +1,5 @@
 -- The grammar: the words that spell a query. Assumes nothing.
-use Rattle.std.specs.Prelude.{◌≡◌, ℕ, Bool, true, false, cond, ◌&&◌, List, [], ◌∷◌, ◌++◌, length, ◌==◌, nat_le}
+use Rattle.std.specs.Prelude.{◌≡◌, ℕ, Bool, true, cond, ◌&&◌, List, [], ◌∷◌, ◌++◌, length, ◌==◌, nat_le}
 use Rattle.query.specs.declared.node.Kind.{Kind}
 use Rattle.query.specs.declared.node.Role.{Role}
 use Rattle.query.specs.declared.node.Role.TheVariants.{Shape}

@@ -14,6 +14,9 @@ module _ (cells : List ℕ) (top : ℕ) (long : length cells ≡ 255) where
   pub pile_size : length pile ≡ 255 - top
   pile_size = length-reverse (drop top cells) ∙ length-drop top cells ∙ ap (λ n. n - top) long
 
+  pub pile_short : length pile ≤ 255
+  pile_short = rw pile_size (omega arith)
+
   pub pile_roomy : 0 < top → true ≡ roomy pile
   pile_roomy free = sym (lt-ltb (length pile) 255 (rw pile_size (omega arith)))
 

@@ -3,8 +3,7 @@
 #![tactic(auto)]
 
 ghost use Rattle.std.specs.Prelude.{◌≡◌, ℕ, ◌^◌, ◌<◌, ◌≤◌, [], reverse, length, drop, slice_index};
-ghost use Rattle.std.proofs.Common.{arith};
-ghost use Rattle.own_book.specs.Piles.{pile_size, pile_narrow};
+ghost use Rattle.own_book.specs.Piles.{pile_short, pile_narrow};
 
 use book::RunBook;
 use word::carries;
@@ -34,7 +33,7 @@ impl Pile {
 impl RunBook for Pile {
     ghost words = { λ b. reverse (drop b.top b.cells) };
 
-    ghost short = { λ b. omega (arith, pile_size b.cells b.top b.long) };
+    ghost short = { λ b. pile_short b.cells b.top b.long };
 
     ghost narrow = { λ b. pile_narrow b.cells b.top b.long b.narrow };
 

@@ -1,7 +1,5 @@
 -- What the machine's steps do to what it keeps in mind.
-use Rattle.std.proofs.Common.{◌≡◌, ℕ, Bool, true, false, cond, not, ◌&&◌, ltb, List, [], ◌∷◌, ◌++◌, length, Some, None, Ok, Err, Option, Result, sym, refl, ap, ◌∙◌, ap₂, arith}
-use Rattle.std.proofs.lemmas.Bool.{cond-true, cond-false}
-use Rattle.query.specs.declared.node.Kind.{Kind}
+use Rattle.std.proofs.Common.{◌≡◌, ℕ, true, cond, ◌&&◌, ltb, List, [], ◌∷◌, ◌++◌, length, Some, None, Ok, Err, Option, sym, refl, ap, ◌∙◌, arith}
 use Rattle.query.specs.declared.node.Kind.TheVariants.{Symbol}
 use Rattle.query.specs.declared.node.Node.{Node}
 use Rattle.query.specs.declared.node.Role.{Role}
@@ -12,13 +10,11 @@ use Rattle.grammar.specs.declared.types.Need.TheVariants.{Number, One, Least, Mo
 use Rattle.grammar.specs.declared.types.Level.{Level}
 use Rattle.grammar.specs.declared.types.Point.{Point}
 use Rattle.grammar.specs.declared.types.Point.TheVariants.{Start, Opened, Inside}
-use Rattle.grammar.specs.declared.types.GrammarFault.{GrammarFault}
-use Rattle.grammar.specs.declared.types.GrammarFault.TheVariants.{Unexpected, Limit}
-use Rattle.grammar.specs.Spelling.{names, is_symbol}
-use Rattle.grammar.specs.Machine.{State, state, level, first_need, after_part, change, counted, fresh, begun, begin, begin_at, leaf, head, may_close, close_need, checked, step, none_open}
+use Rattle.grammar.specs.declared.types.GrammarFault.TheVariants.{Limit}
+use Rattle.grammar.specs.Machine.{State, state, after_part, counted, fresh, begun, begin, begin_at, leaf, may_close, close_need, checked, step}
 use Rattle.grammar.proofs.Forward.{none_some, some_same}
 use Rattle.grammar.proofs.Counting.{change_length}
-use Rattle.parser.specs.Seen.{first_of, behind, inside_top, has_room, name_step}
+use Rattle.parser.specs.Seen.{behind, inside_top, has_room, name_step}
 
 close_allowed : (N : Need) (vs : List Level) (out : List Node) → may_close N ≡ true → close_need N vs out ≡ Some (state Inside vs out)
 close_allowed Number vs out e = absurd (let z : ◌≡◌ {A = ℕ} 0 1 = cc in omega arith)

@@ -1,6 +1,5 @@
 -- The number of each refusal of a text, and what is returned with it. Assumes nothing.
 use Rattle.std.specs.Prelude.{ℕ}
-use Rattle.grammar.specs.declared.types.GrammarFault.{GrammarFault}
 use Rattle.grammar.specs.declared.types.GrammarFault.TheVariants.{Unexpected, Ended, Number, Limit}
 use Rattle.parser.specs.declared.fault.ReadFault.{ReadFault}
 use Rattle.parser.specs.declared.fault.ReadFault.TheVariants.{Sheet, Long, Word, Grammar}

@@ -1,5 +1,5 @@
 -- What a text is read into, found word by word. Assumes nothing.
-use Rattle.std.specs.Prelude.{◌≡◌, ℕ, Bool, true, false, cond, List, length, Ok, Err, Result, nat_lt}
+use Rattle.std.specs.Prelude.{◌≡◌, ℕ, cond, List, length, Ok, Err, Result, nat_lt}
 use Rattle.words.specs.Words.{Stream, ends, bad, word, stream}
 use Rattle.grammar.specs.declared.types.GrammarFault.{GrammarFault}
 use Rattle.grammar.specs.declared.types.GrammarFault.TheVariants.{Ended}

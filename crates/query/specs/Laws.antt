@@ -1,9 +1,9 @@
 -- Laws of queries and their records.
-use Rattle.std.specs.Prelude.{◌≡◌, ℕ, Bool, true, ◌↔◌, List}
+use Rattle.std.specs.Prelude.{◌≡◌, true, ◌↔◌, List}
 use Rattle.query.specs.declared.node.Node.{Node}
 use Rattle.query.specs.declared.node.Stage.{Stage}
 use Rattle.query.specs.Tree.{Query, records, alike, bare}
-use Rattle.query.specs.Rules.{well, AreQuery}
+use Rattle.query.specs.Rules.{well}
 use Rattle.query.specs.Stands.{is_query, query_in}
 
 -- The records of a query give it back: no other query has them.

@@ -1,5 +1,5 @@
 -- How many words there are.
-use Rattle.std.proofs.Common.{◌≡◌, ℕ, ◌<◌, ◌≤◌, false, length, get_or, take, ap, ◌∙◌, arith}
+use Rattle.std.proofs.Common.{◌≡◌, ℕ, ◌≤◌, false, length, get_or, ap, ◌∙◌, arith}
 use Rattle.std.proofs.lemmas.List.{length-take, length-take-le, get_or_past}
 use Rattle.word.specs.Words.{has}
 use Rattle.word.proofs.Bits.{has_none}

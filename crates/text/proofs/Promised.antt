@@ -60,13 +60,10 @@ module _ (text : List ℕ) (before : List Node) where
   abbrev pub RightFor : Result State ReadFault → Type 0
   RightFor x = Means (answered x) text before (left_in x before)
 
-  blanked : 64 ≤ length before → Blanked before (refused_sheet before)
-  blanked h = record { room = h; blanks = cond-false _ _ _ (le-ltb (length before) 64 h) }
+  blanked : 64 ≤ length before → Blanked before (padded [] (length before))
+  blanked h = record { room = h; blanks = refl }
 
-  kept : length before < 64 → refused_sheet before ≡ before
-  kept s = cond-true _ _ _ (lt-ltb (length before) 64 s)
-
-  why_not : (f : GrammarFault) → 64 ≤ length before → length text ≤ 4096 → run (words_of text) start ≡ Err f → Refused (Grammar f) text before (refused_sheet before)
+  why_not : (f : GrammarFault) → 64 ≤ length before → length text ≤ 4096 → run (words_of text) start ≡ Err f → Refused (Grammar f) text before (padded [] (length before))
   why_not (Unexpected p) h l e = (blanked h, l, tt, why (words_of text) (length text) (Unexpected p) e)
   why_not (Ended p) h l e =
       let r = right_runs (words_of text) (why (words_of text) (length text) (Ended p) e).0 in
@@ -94,7 +91,7 @@ module _ (text : List ℕ) (before : List Node) where
   -- the outcome is right
   pub found_right : RightFor found
   found_right = elim (cases_lt (length before) 64) [
-    | inl s ↦ subst RightFor (sym (found_sheet s)) (s, kept s)
+    | inl s ↦ subst RightFor (sym (found_sheet s)) (s, refl)
     | inr h ↦ elim (cases_lt 4096 (length text)) [
       | inl l ↦ subst RightFor (sym (found_long h l)) (blanked h, l)
       | inr l ↦ subst RightFor (sym (found_words h l)) (outcome_right h l (run (words_of text) start) (bad_byte text) refl refl)
@@ -128,16 +125,13 @@ module _ (text : List ℕ) (before : List Node) where
   grammar_found (Number p) h l w y = found_words h l ∙ ap (λ r. closed r (bad_byte text) (length text)) (because_number (words_of text) p y)
   grammar_found (Limit p) h l w y = found_words h l ∙ ap (λ r. closed r (bad_byte text) (length text)) (because_limit (words_of text) p y)
 
-  left_blank : {after : List Node} → Blanked before after → after ≡ refused_sheet before
-  left_blank b = b.blanks ∙ sym (blanked b.room).blanks
-
   refused_only : (f : ReadFault) (after : List Node) → Refused f text before after → Of (Err f) after
-  refused_only Sheet after m = of (Err Sheet) _ _ (found_sheet m.0) refl (m.1 ∙ sym (kept m.0))
-  refused_only Long after m = of (Err Long) _ _ (found_long m.0.room m.1) refl (left_blank m.0)
+  refused_only Sheet after m = of (Err Sheet) _ _ (found_sheet m.0) refl m.1
+  refused_only Long after m = of (Err Long) _ _ (found_long m.0.room m.1) refl m.0.blanks
   refused_only (Word f) after m =
       let r = right_runs (words_of text) m.3 in
-      of (Err (Word f)) _ _ (found_words m.0.room m.1 ∙ ap₂ (λ x o. closed x o (length text)) r.1 m.2) refl (left_blank m.0)
-  refused_only (Grammar f) after m = of (Err (Grammar f)) _ _ (grammar_found f m.0.room m.1 m.2 m.3) refl (left_blank m.0)
+      of (Err (Word f)) _ _ (found_words m.0.room m.1 ∙ ap₂ (λ x o. closed x o (length text)) r.1 m.2) refl m.0.blanks
+  refused_only (Grammar f) after m = of (Err (Grammar f)) _ _ (grammar_found f m.0.room m.1 m.2 m.3) refl m.0.blanks
 
   -- no other answer is
   pub found_only : (r : Result ReadShape ReadFault) (after : List Node) → Means r text before after → Of r after
@@ -164,3 +158,16 @@ module _ (text : List ℕ) (before : List Node) where
 
   pub promised_accepts : (r : Result ReadShape ReadFault) (after : List Node) → Of r after → (is_ok r ≡ true) ↔ Readable text (length before)
   promised_accepts r after o = subst (λ x. (is_ok x ≡ true) ↔ Readable text (length before)) (sym o.0) found_accepts
+
+  found_parsed : 64 ≤ length before → found ≡ parsed text
+  found_parsed h = cond-false _ _ _ (le-ltb (length before) 64 h)
+
+  -- a text that is not read leaves a sheet of blanks
+  pub blank_left : (f : ReadFault) → 64 ≤ length before → parsed text ≡ Err f → padded [] (length before) ≡ left_in found before
+  blank_left f h e = go f (found_parsed h ∙ e) ∙ sym (ap (λ x. left_in x before) (found_parsed h ∙ e))
+    where
+      go : (g : ReadFault) → found ≡ Err g → padded [] (length before) ≡ refused_sheet g before
+      go Sheet e = absurd (let w = (subst RightFor e found_right).0 in omega arith)
+      go Long e = refl
+      go (Word g) e = refl
+      go (Grammar g) e = refl

@@ -1,11 +1,11 @@
 -- A row of letters or of digits, a parenthesis and a space in front of other bytes, cut into words.
-use Rattle.std.proofs.Common.{◌≡◌, ℕ, suc, ◌+◌, ◌<◌, ◌≤◌, Bool, true, false, cond, ◌&&◌, ◌||◌, eqb, leb, List, [], ◌∷◌, ◌++◌, length, get_or, take, drop, sym, refl, ap, ◌∙◌, subst, ap₂, inl, inr, arith}
+use Rattle.std.proofs.Common.{◌≡◌, ℕ, suc, ◌+◌, ◌<◌, ◌≤◌, Bool, true, false, ◌&&◌, ◌||◌, eqb, List, [], ◌∷◌, ◌++◌, length, take, drop, sym, refl, ap, ◌∙◌, subst, ap₂, inl, inr, arith}
 use Rattle.std.specs.Char.{is_ascii_digit, is_ascii_alphabetic}
-use Rattle.std.proofs.lemmas.List.{length-append, take_at, drop_at}
+use Rattle.std.proofs.lemmas.List.{take_at, drop_at}
 use Rattle.std.proofs.lemmas.Bool.{and_parts, and_left, and_from, or_cases, or_from, cond-true, cond-false, eqb-true, le-leb, lt-leb}
 use Rattle.words.specs.declared.Class.{Class}
-use Rattle.words.specs.declared.Class.TheVariants.{Blank, Letter, Digit, Open, Close, Other}
-use Rattle.words.specs.Words.{class, same, row, begins, Lexeme, name, number, opens, closes, Stream, word, grow, front, glued, stream}
+use Rattle.words.specs.declared.Class.TheVariants.{Blank, Letter, Digit, Close}
+use Rattle.words.specs.Words.{class, same, row, begins, Lexeme, name, number, Stream, word, grow, front, glued, stream}
 use Rattle.words.proofs.Rows.{whole, same_self}
 
 -- the bytes are none, or begin with a space or a closing parenthesis

@@ -4,7 +4,7 @@ use Rattle.std.proofs.lemmas.Bool.{eqb-true, ne_eqb, both_ways}
 use Rattle.std.proofs.lemmas.List.{at_drop_more, at_drop_all, drop-drop, get_or-drop, length-drop, length-take-le}
 use Rattle.words.specs.declared.Class.{Class}
 use Rattle.words.specs.declared.Class.TheVariants.{Blank, Letter, Digit, Open, Close, Other}
-use Rattle.words.specs.Words.{class, class_number, same, row, begins, Lexeme, name, number, opens, closes, Stream, ends, bad, word, grow, glued, front, stream}
+use Rattle.words.specs.Words.{class, class_number, same, row, begins, Lexeme, name, number, Stream, ends, word, grow, glued, front, stream}
 
 abbrev decode : ℕ → Class
 decode n = cond (eqb n 0) Blank (cond (eqb n 1) Letter (cond (eqb n 2) Digit (cond (eqb n 3) Open (cond (eqb n 4) Close Other))))

@@ -1,4 +1,4 @@
-use Rattle.std.proofs.Common.{◌≡◌, sym, refl, ap, ◌∙◌, arith}
+use Rattle.std.proofs.Common.{refl, ap, ◌∙◌, arith}
 use Rattle.std.specs.Str.{bytes_eq}
 use Rattle.grammar.specs.Names.{operators, kind_named}
 use Rattle.grammar.proofs.Naming.{named_here, named_later, named_none}
@@ -10,12 +10,12 @@ loop-kind-init c = refl
 
 pub returns-then-same : goal.returns-then-same
 returns-then-same c =
-    named_here operators c.args.name.now c.loop-kind.kind-index (omega arith) (c.if-same.ensures ∙ ap (bytes_eq c.args.name.now) c.word-of.ensures)
+    named_here operators c.args.name.now c.loop-kind.kind-index (omega arith) (c.if-same.ensures ∙ ap (bytes_eq c.args.name.now) c.word_of.ensures)
     ∙ c.loop-kind.invariant
 
 pub loop-kind-preserved : goal.loop-kind-preserved
 loop-kind-preserved c =
-    named_later operators c.args.name.now c.loop-kind.kind-index (omega arith) (c.if-same.ensures ∙ ap (bytes_eq c.args.name.now) c.word-of.ensures)
+    named_later operators c.args.name.now c.loop-kind.kind-index (omega arith) (c.if-same.ensures ∙ ap (bytes_eq c.args.name.now) c.word_of.ensures)
     ∙ c.loop-kind.invariant
 
 pub returns : goal.returns

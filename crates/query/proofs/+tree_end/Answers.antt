@@ -1,4 +1,4 @@
-use Rattle.std.proofs.Common.{ℕ, ◌+◌, ◌-◌, ◌∙◌, arith}
+use Rattle.std.proofs.Common.{◌+◌, ◌-◌, ◌∙◌, arith}
 use Rattle.query.specs.Stands.{at, end_at}
 use Rattle.query.proofs.Ending.{end_out, end_wrong, end_on, ends_more, ends_stop, ends_all}
 use Rattle.query.proofs.+tree_end.Goals as goal

@@ -11,7 +11,7 @@ loop-node-init c = λ j l. has_none j
 
 pub loop-node-preserved : goal.loop-node-preserved
 loop-node-preserved c = λ j l.
-    used_more c.args.records.now c.loop-node.node-index j c.loop-node.word c.symbol-of-word.result blank (search rules) (c.loop-node.invariant j l) (c.symbol-of-word.ensures j l)
+    used_more c.args.records.now c.loop-node.node-index j c.loop-node.word c.symbol_of-word.result blank (search rules) (c.loop-node.invariant j l) (c.symbol_of-word.ensures j l)
 
 pub returns : goal.returns
 returns c = λ j l. c.loop-node.invariant j l ∙ used_all c.args.records.now c.loop-node.node-index j (search rules)

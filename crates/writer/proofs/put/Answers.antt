@@ -8,5 +8,5 @@ returns c =
     let at = c.args.at in
     record {
       ends = refl;
-      holds = ap₂ (λ ys zs. take at out ++ (ys ++ zs)) c.copy-from-slice.ensures.after (Post-is at (at + length c.args.bytes.now) out (omega arith));
+      holds = ap₂ (λ ys zs. take at out ++ (ys ++ zs)) c.copy_from_slice.ensures.after (Post-is at (at + length c.args.bytes.now) out (omega arith));
     }

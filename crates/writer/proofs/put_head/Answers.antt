@@ -5,23 +5,23 @@ use Rattle.writer.proofs.Putting.{wrote_then, wrote_as, word_short, numeral_shor
 use Rattle.writer.proofs.put_head.Goals as goal
 
 pub put-behind-requires : goal.put-behind-requires
-put-behind-requires c = omega (arith, c.put-word.ensures.ends, word_short c.args.kind, ap length c.word-of.ensures)
+put-behind-requires c = omega (arith, c.put-word.ensures.ends, word_short c.args.kind, ap length c.word_of.ensures)
 
-pub put-number-requires : goal.put-number-requires
-put-number-requires c =
-    omega (arith, c.put-word.ensures.ends, c.put-behind.ensures.ends, word_short c.args.kind, ap length c.word-of.ensures)
+pub put_number-requires : goal.put_number-requires
+put_number-requires c =
+    omega (arith, c.put-word.ensures.ends, c.put-behind.ensures.ends, word_short c.args.kind, ap length c.word_of.ensures)
 
-pub returns-then-takes-number : goal.returns-then-takes-number
-returns-then-takes-number c =
+pub returns-then-takes_number : goal.returns-then-takes_number
+returns-then-takes_number c =
     let k = c.args.kind in
     let a = word_short k in
     let b = numeral_short c.args.number in
-    wrote_as (ap (λ x. 40 ∷ (operator_word k ++ x)) (number_some k c.args.number (sym c.if-takes-number.ensures)))
-    (wrote_then (wrote_then c.put-word.ensures (wrote_as c.word-of.ensures c.put-behind.ensures) (omega arith)) c.put-number.ensures (omega arith))
+    wrote_as (ap (λ x. 40 ∷ (operator_word k ++ x)) (number_some k c.args.number (sym c.if-takes_number.ensures)))
+    (wrote_then (wrote_then c.put-word.ensures (wrote_as c.word_of.ensures c.put-behind.ensures) (omega arith)) c.put_number.ensures (omega arith))
 
-pub returns-else-takes-number : goal.returns-else-takes-number
-returns-else-takes-number c =
+pub returns-else-takes_number : goal.returns-else-takes_number
+returns-else-takes_number c =
     let k = c.args.kind in
     let a = word_short k in
-    wrote_as (ap (λ x. 40 ∷ x) (sym (append-nil (operator_word k)) ∙ ap (λ x. operator_word k ++ x) (number_none k c.args.number (sym c.if-takes-number.ensures))))
-    (wrote_then c.put-word.ensures (wrote_as c.word-of.ensures c.put-behind.ensures) (omega arith))
+    wrote_as (ap (λ x. 40 ∷ x) (sym (append-nil (operator_word k)) ∙ ap (λ x. operator_word k ++ x) (number_none k c.args.number (sym c.if-takes_number.ensures))))
+    (wrote_then c.put-word.ensures (wrote_as c.word_of.ensures c.put-behind.ensures) (omega arith))

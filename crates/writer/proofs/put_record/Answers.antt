@@ -10,8 +10,8 @@ put-requires c =
     let n = c.args.node.number in
     omega (arith, name_short names n c.args.alphabet.now.named, ap length (name_is names n _ c.in-Some.ensures))
 
-pub returns-in-default : goal.returns-in-default
-returns-in-default c = wrote_as (head_only (names_of c.args.alphabet.now) c.args.node.kind c.args.node.number (not_symbol c.args.node.kind c.in-default.not-Symbol)) c.put-head.ensures
+pub returns-in_default : goal.returns-in_default
+returns-in_default c = wrote_as (head_only (names_of c.args.alphabet.now) c.args.node.kind c.args.node.number (not_symbol c.args.node.kind c.in_default.not-Symbol)) c.put_head.ensures
 
 pub returns-in-Some : goal.returns-in-Some
 returns-in-Some c =

@@ -5,8 +5,8 @@ use Rattle.alphabet.specs.Sheets.{layout_right}
 use Rattle.alphabet.proofs.Fields.{too_short}
 use Rattle.alphabet.proofs.sheet.is_laid_out.Goals as goal
 
-pub returns-in-default : goal.returns-in-default
-returns-in-default c = sym (too_short c.args.sheet.now (omega (arith, ltb-true, leb-true)))
+pub returns-in_default : goal.returns-in_default
+returns-in_default c = sym (too_short c.args.sheet.now (omega (arith, ltb-true, leb-true)))
 
 pub returns-then-symbols-lt1 : goal.returns-then-symbols-lt1
 unfolding layout_right

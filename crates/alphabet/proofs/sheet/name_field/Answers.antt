@@ -6,8 +6,8 @@ use Rattle.alphabet.proofs.sheet.name_field.Goals as goal
 pub bounds-sheet-1 : goal.bounds-sheet-1
 bounds-sheet-1 c = let l = (layout_decides c.args.sheet.now).0 c.requires.laid in omega (arith, l.whole)
 
-pub slice-bounds-result-end : goal.slice-bounds-result-end
-slice-bounds-result-end c =
+pub slice_bounds-result-end : goal.slice_bounds-result-end
+slice_bounds-result-end c =
     let s = c.args.sheet.now in
     name_ends s ((layout_decides s).0 c.requires.laid) c.args.symbol c.requires.within
 

@@ -7,23 +7,23 @@ use Rattle.alphabet.proofs.Fields.{layout_decides}
 use Rattle.alphabet.proofs.Reading.{word_is, a_repeat, fresh, name_short, told}
 use Rattle.alphabet.proofs.sheet.symbol_name.Goals as goal
 
-pub returns-then-is-some : goal.returns-then-is-some
-returns-then-is-some c =
+pub returns-then-is_some : goal.returns-then-is_some
+returns-then-is_some c =
     let s = c.args.sheet.now in
     let j = c.args.symbol in
-    let word = c.in-ok-word.word.now in
-    let known = told (spellings c.args.earlier.now) (sheet_names s j) word c.index-of.result _ c.index-of.ensures c.requires.before (sym c.if-is-some.ensures) in
+    let word = c.in_ok-word.word.now in
+    let known = told (spellings c.args.earlier.now) (sheet_names s j) word c.index_of.result _ c.index_of.ensures c.requires.before (sym c.if-is_some.ensures) in
     sym (cond-false (name_right s j) (Some (sheet_name s j)) None
-    (a_repeat s j c.name-field.result.now word c.name-field.ensures c.in-ok-word.ensures known))
+    (a_repeat s j c.name_field.result.now word c.name_field.ensures c.in_ok-word.ensures known))
 
 pub returns : goal.returns
 returns c =
     let s = c.args.sheet.now in
     let j = c.args.symbol in
-    let word = c.in-ok-word.word.now in
-    let new = told (spellings c.args.earlier.now) (sheet_names s j) word c.index-of.result _ c.index-of.ensures c.requires.before (sym c.if-is-some.ensures) in
-    let letters = word_is s j c.name-field.result.now word c.name-field.ensures c.in-ok-word.ensures in
+    let word = c.in_ok-word.word.now in
+    let new = told (spellings c.args.earlier.now) (sheet_names s j) word c.index_of.result _ c.index_of.ensures c.requires.before (sym c.if-is_some.ensures) in
+    let letters = word_is s j c.name_field.result.now word c.name_field.ensures c.in_ok-word.ensures in
     let short = name_short s ((layout_decides s).0 c.requires.laid) j c.requires.within in
     ap Some (c.of.ensures ∙ take_all 16 word (omega (arith, ap length letters)) ∙ letters)
     ∙ sym (cond-true (name_right s j) (Some (sheet_name s j)) None
-    (fresh s j c.name-field.result.now word c.name-field.ensures c.in-ok-word.ensures new))
+    (fresh s j c.name_field.result.now word c.name_field.ensures c.in_ok-word.ensures new))

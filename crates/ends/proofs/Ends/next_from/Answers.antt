@@ -1,4 +1,4 @@
-use Rattle.std.proofs.Common.{arith, rules}
+use Rattle.std.proofs.Common.{rules}
 use Rattle.ends.proofs.Sets.{next_here, none_here, none_more, next_there}
 use Rattle.ends.proofs.Ends.next_from.Goals as goal
 

@@ -11,8 +11,8 @@ pub loop-a-init : goal.loop-a-init
 unfolding rows_from
 loop-a-init c = (puts_none c.args.out.now 0, refl)
 
-pub write-row-place-requires : goal.write-row-place-requires
-write-row-place-requires c =
+pub write_row-place-requires : goal.write_row-place-requires
+write_row-place-requires c =
     let r = rows_room (holds c.args.table.now) c.args.n c.loop-a.a (search rules) in
     let e = c.loop-a.invariant.1 in
     let z : c.args.n - 0 ≡ c.args.n = omega arith in
@@ -29,9 +29,9 @@ loop-a-preserved c =
     let x = ap length s in
     let y = length-append d e in
     let p = c.loop-a.invariant.1 in
-    let q = c.write-row-place.ensures.next in (
-      subst (λ (l : List Stretch). Puts c.args.out.now c.write-row-place.new.out l 0) s
-          (puts_then c.args.out.now c.loop-a.out c.write-row-place.new.out d e 0 c.loop-a.place (omega arith) c.loop-a.invariant.0 c.write-row-place.ensures.written),
+    let q = c.write_row-place.ensures.next in (
+      subst (λ (l : List Stretch). Puts c.args.out.now c.write_row-place.new.out l 0) s
+          (puts_then c.args.out.now c.loop-a.out c.write_row-place.new.out d e 0 c.loop-a.place (omega arith) c.loop-a.invariant.0 c.write_row-place.ensures.written),
       omega arith,
     )
 

@@ -9,9 +9,9 @@ use Rattle.matcher.proofs.survey.write_row.Goals as goal
 
 pub loop-b-init : goal.loop-b-init
 loop-b-init c =
-    let h = c.next-in-b.ensures in
+    let h = c.next_in-b.ensures in
     let above = h.above in
-    let s = row_start (holds c.args.table.now) c.args.a c.args.n c.next-in-b.result h in
+    let s = row_start (holds c.args.table.now) c.args.a c.args.n c.next_in-b.result h in
     let e = ap length s in (
       subst (λ (l : List Stretch). Puts c.args.out.now c.args.out.now l c.args.place) s (puts_none c.args.out.now c.args.place),
       omega arith,
@@ -20,8 +20,8 @@ loop-b-init c =
       h.found,
     )
 
-pub offset-bounds-out-next : goal.offset-bounds-out-next
-offset-bounds-out-next c =
+pub offset_bounds-out-next : goal.offset_bounds-out-next
+offset_bounds-out-next c =
     let t = c.loop-b.invariant.4 (let u = c.loop-b-test.true in let v = c.requires.small in omega arith) in
     let r = row_room (holds c.args.table.now) c.args.a c.args.n c.loop-b.b c.loop-b.invariant.2 c.loop-b-test.true t in
     let e = c.loop-b.invariant.1 in
@@ -38,8 +38,8 @@ bounds-out-next c =
     let q = c.requires.room in
     search rules
 
-pub overflow-add-next : goal.overflow-add-next
-overflow-add-next c =
+pub overflow_add-next : goal.overflow_add-next
+overflow_add-next c =
     let t = c.loop-b.invariant.4 (let u = c.loop-b-test.true in let v = c.requires.small in omega arith) in
     let r = row_room (holds c.args.table.now) c.args.a c.args.n c.loop-b.b c.loop-b.invariant.2 c.loop-b-test.true t in
     let e = c.loop-b.invariant.1 in
@@ -54,9 +54,9 @@ loop-b-preserved c =
     let e = c.loop-b.invariant.1 in
     let k : length c.loop-b.out ≡ length c.args.out.now = c.loop-b.auto.out in
     let q = c.requires.room in
-    let h = c.next-in-b-in-loop-b.ensures in
+    let h = c.next_in-b-in-loop-b.ensures in
     let above = h.above in
-    let s = row_next (holds c.args.table.now) c.args.a c.args.n c.loop-b.b c.next-in-b-in-loop-b.result c.loop-b.invariant.2 c.loop-b-test.true t h in
+    let s = row_next (holds c.args.table.now) c.args.a c.args.n c.loop-b.b c.next_in-b-in-loop-b.result c.loop-b.invariant.2 c.loop-b-test.true t h in
     let x = ap length s in
     let y = length-append (row_before (holds c.args.table.now) c.args.a c.args.n c.loop-b.b) (stretch c.args.a c.loop-b.b ∷ []) in (
       subst (λ (l : List Stretch). Puts c.args.out.now (set c.loop-b.out c.loop-b.next (stretch c.args.a c.loop-b.b)) l c.args.place) s

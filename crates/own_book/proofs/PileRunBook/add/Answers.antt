@@ -9,10 +9,10 @@ returns-then-self-eq0 c =
     let refused = pile_full b.cells b.top b.long c.args.word c.if-self-eq0.true in
     record { answer = refused.0; after = refused.1 }
 
-pub invariant-of-self : goal.invariant-of-self
-invariant-of-self c =
+pub invariant_of-self : goal.invariant_of-self
+invariant_of-self c =
     let b = c.args.self.now in
-    (search rules, (search rules, (narrow_set b.cells (b.top - 1) c.args.word (search rules) (search rules) b.narrow, tt)))
+    record { long = search rules; within = search rules; narrow = narrow_set b.cells (b.top - 1) c.args.word (search rules) (search rules) b.narrow }
 
 pub returns : goal.returns
 returns c =

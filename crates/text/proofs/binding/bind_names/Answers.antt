@@ -9,8 +9,8 @@ use Rattle.text.proofs.Firsts.{take_min, drop_min}
 use Rattle.text.proofs.Names.{not_reached}
 use Rattle.text.proofs.binding.bind_names.Goals as goal
 
-pub bound-node-requires : goal.bound-node-requires
-bound-node-requires c =
+pub bound_node-requires : goal.bound_node-requires
+bound_node-requires c =
     let long = length-take c.args.count c.args.sheet.now in
     subst (Lies (length c.args.text.now))
     (get_or-take c.args.count c.args.sheet.now c.loop-i.i blank (omega (arith, c.min-end.ensures)) ∙ sym (not_reached (bound (names_of c.args.alphabet.now) c.args.text.now) c.args.sheet.now c.loop-i.sheet c.loop-i.i blank (omega (arith, c.min-end.ensures)) c.loop-i.invariant))
@@ -19,7 +19,7 @@ bound-node-requires c =
 pub loop-i-preserved : goal.loop-i-preserved
 loop-i-preserved c =
     let f = bound (names_of c.args.alphabet.now) c.args.text.now in
-    ap (λ n. set c.loop-i.sheet c.loop-i.i n) c.bound-node.ensures
+    ap (λ n. set c.loop-i.sheet c.loop-i.i n) c.bound_node.ensures
     ∙ map_over_more f c.args.sheet.now c.loop-i.sheet c.loop-i.i (get_or c.loop-i.sheet c.loop-i.i blank) (omega (arith, c.min-end.ensures)) c.loop-i.invariant (get_or_default c.loop-i.sheet c.loop-i.i blank _ (omega (arith, c.min-end.ensures)))
 
 pub returns : goal.returns

@@ -6,17 +6,17 @@ use Rattle.text.specs.Binding.{Lies}
 use Rattle.text.proofs.Names.{unknown_here, unknown_next, unknown_end}
 use Rattle.text.proofs.binding.unknown_name.Goals as goal
 
-pub name-fault-fault-requires : goal.name-fault-fault-requires
-name-fault-fault-requires c = All-get_or (Lies (length c.args.text.now)) c.args.records.now c.loop-node.node-index blank c.loop-node-test.true c.requires
+pub name_fault-fault-requires : goal.name_fault-fault-requires
+name_fault-fault-requires c = All-get_or (Lies (length c.args.text.now)) c.args.records.now c.loop-node.node-index blank c.loop-node-test.true c.requires
 
-pub returns-then-is-some : goal.returns-then-is-some
-returns-then-is-some c =
-    sym (unknown_here (names_of c.args.alphabet.now) c.args.text.now c.args.records.now c.loop-node.node-index blank _ c.loop-node-test.true c.name-fault-fault.ensures (sym c.if-is-some.ensures))
+pub returns-then-is_some : goal.returns-then-is_some
+returns-then-is_some c =
+    sym (unknown_here (names_of c.args.alphabet.now) c.args.text.now c.args.records.now c.loop-node.node-index blank _ c.loop-node-test.true c.name_fault-fault.ensures (sym c.if-is_some.ensures))
     ∙ c.loop-node.invariant
 
 pub loop-node-preserved : goal.loop-node-preserved
 loop-node-preserved c =
-    sym (unknown_next (names_of c.args.alphabet.now) c.args.text.now c.args.records.now c.loop-node.node-index blank _ c.loop-node-test.true c.name-fault-fault.ensures (sym c.if-is-some.ensures))
+    sym (unknown_next (names_of c.args.alphabet.now) c.args.text.now c.args.records.now c.loop-node.node-index blank _ c.loop-node-test.true c.name_fault-fault.ensures (sym c.if-is_some.ensures))
     ∙ c.loop-node.invariant
 
 pub returns : goal.returns

@@ -4,6 +4,6 @@ use Rattle.text.proofs.binding.was_read.Goals as goal
 
 pub returns : goal.returns
 returns c = record {
-  answer = c.is-query.ensures.answer;
-  lie = λ e. query_lies (length c.args.text.now) c.args.records.now (sym c.is-query.ensures.answer ∙ e);
+  answer = c.is_query.ensures.answer;
+  lie = λ e. query_lies (length c.args.text.now) c.args.records.now (sym c.is_query.ensures.answer ∙ e);
 }

@@ -6,13 +6,13 @@ use Rattle.writer.specs.Laying.{laid}
 use Rattle.text.proofs.Written.{query_few, may_write, written}
 use Rattle.text.proofs.writing.write.Goals as goal
 
-pub put-all-requires : goal.put-all-requires
-put-all-requires c =
+pub put_all-requires : goal.put_all-requires
+put_all-requires c =
     let names = names_of c.args.alphabet.now in
     let xs = take c.args.bound.now.records c.args.sheet.now in
-    let may = may_write names xs (length c.args.sheet.now) c.args.out.now c.in-default.ensures in
+    let may = may_write names xs (length c.args.sheet.now) c.args.out.now c.in_default.ensures in
     record {
-      few = subst (λ ys. length ys ≤ 64) (sym c.first-records.ensures) (query_few (Bound (length names)) xs may.0);
+      few = subst (λ ys. length ys ≤ 64) (sym c.first_records.ensures) (query_few (Bound (length names)) xs may.0);
       room = may.1;
     }
 
@@ -20,7 +20,7 @@ pub returns : goal.returns
 returns c =
     let names = names_of c.args.alphabet.now in
     let xs = take c.args.bound.now.records c.args.sheet.now in
-    let wrote = subst (λ ys. Wrote c.args.out.now 0 (laid names [] ys) c.put-all.new.out c.put-all.result) c.first-records.ensures c.put-all.ensures.wrote in
-    let w = written names xs (length c.args.sheet.now) c.args.out.now c.in-default.ensures c.put-all.new.out c.put-all.result wrote
-    c.args.alphabet.now.named c.args.alphabet.now.distinct c.put-all.ensures.short in
+    let wrote = subst (λ ys. Wrote c.args.out.now 0 (laid names [] ys) c.put_all.new.out c.put_all.result) c.first_records.ensures c.put_all.ensures.wrote in
+    let w = written names xs (length c.args.sheet.now) c.args.out.now c.in_default.ensures c.put_all.new.out c.put_all.result wrote
+    c.args.alphabet.now.named c.args.alphabet.now.distinct c.put_all.ensures.short in
     record { answer = w.0; out = w.1; back = w.2 }

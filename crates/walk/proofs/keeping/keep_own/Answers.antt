@@ -9,14 +9,14 @@ use Rattle.walk.proofs.Walking.{opened, in_role}
 use Rattle.walk.proofs.Standing.{own_kept}
 use Rattle.walk.proofs.keeping.keep_own.Goals as goal
 
-pub offset-bounds-records-i : goal.offset-bounds-records-i
-offset-bounds-records-i c = let o = opened 16 c.args.records.now c.requires.stands.0 c.args.i (omega arith) c.requires.stands.1 in let f = c.requires.right.few in search rules
+pub offset_bounds-records-i : goal.offset_bounds-records-i
+offset_bounds-records-i c = let o = opened 16 c.args.records.now c.requires.stands.0 c.args.i (omega arith) c.requires.stands.1 in let f = c.requires.right.few in search rules
 
 pub bounds-records-i : goal.bounds-records-i
 bounds-records-i c = let o = opened 16 c.args.records.now c.requires.stands.0 c.args.i (omega arith) c.requires.stands.1 in let f = c.requires.right.few in search rules
 
-pub offset-bounds-kept-i : goal.offset-bounds-kept-i
-offset-bounds-kept-i c = let o = opened 16 c.args.records.now c.requires.stands.0 c.args.i (omega arith) c.requires.stands.1 in let f = c.requires.right.few in search rules
+pub offset_bounds-kept-i : goal.offset_bounds-kept-i
+offset_bounds-kept-i c = let o = opened 16 c.args.records.now c.requires.stands.0 c.args.i (omega arith) c.requires.stands.1 in let f = c.requires.right.few in search rules
 
 pub listed : goal.listed
 listed c = let o = opened 16 c.args.records.now c.requires.stands.0 c.args.i (omega arith) c.requires.stands.1 in let f = c.requires.right.few in search rules
@@ -24,18 +24,18 @@ listed c = let o = opened 16 c.args.records.now c.requires.stands.0 c.args.i (om
 pub bounds-kept-i : goal.bounds-kept-i
 bounds-kept-i c = let o = opened 16 c.args.records.now c.requires.stands.0 c.args.i (omega arith) c.requires.stands.1 in let f = c.requires.right.few in search rules
 
-pub returns-then-not-may-stand : goal.returns-then-not-may-stand
-returns-then-not-may-stand c = record {
+pub returns-then-not-may_stand : goal.returns-then-not-may_stand
+returns-then-not-may_stand c = record {
   nexts = refl;
   laters = refl;
   all_stops = refl;
   owns = λ x ne d. refl;
-  here = λ u d. absurd (false≢true (sym (sym c.may-stand.ensures ∙ c.if-not-may-stand.true) ∙ (opened 16 c.args.records.now Shape c.args.i (omega arith) u).kind_right));
+  here = λ u d. absurd (false≢true (sym (sym c.may_stand.ensures ∙ c.if-not-may_stand.true) ∙ (opened 16 c.args.records.now Shape c.args.i (omega arith) u).kind_right));
 }
 
 pub seen-requires : goal.seen-requires
 seen-requires c =
-    let up = in_role 16 c.args.records.now c.requires.stands.0 Shape c.args.i (sym c.may-stand.ensures ∙ c.if-not-may-stand.false) c.requires.stands.1 in
+    let up = in_role 16 c.args.records.now c.requires.stands.0 Shape c.args.i (sym c.may_stand.ensures ∙ c.if-not-may_stand.false) c.requires.stands.1 in
     record { stands = up; deep = omega arith; right = c.requires.right; ready = c.requires.ready; low = omega arith; high = (let e = c.len.ensures.length in omega arith) }
 
 pub returns : goal.returns

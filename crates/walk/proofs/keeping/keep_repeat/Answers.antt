@@ -9,42 +9,42 @@ use Rattle.walk.proofs.Walking.{opened}
 use Rattle.walk.proofs.Standing.{repeated_part, repeat_kept, own_at}
 use Rattle.walk.proofs.keeping.keep_repeat.Goals as goal
 
-pub offset-bounds-records-i : goal.offset-bounds-records-i
-offset-bounds-records-i c = let o = opened 16 c.args.records.now c.requires.stands.0 c.args.i (omega arith) c.requires.stands.1 in let f = c.requires.right.few in search rules
+pub offset_bounds-records-i : goal.offset_bounds-records-i
+offset_bounds-records-i c = let o = opened 16 c.args.records.now c.requires.stands.0 c.args.i (omega arith) c.requires.stands.1 in let f = c.requires.right.few in search rules
 
 pub bounds-records-i : goal.bounds-records-i
 bounds-records-i c = let o = opened 16 c.args.records.now c.requires.stands.0 c.args.i (omega arith) c.requires.stands.1 in let f = c.requires.right.few in search rules
 
-pub overflow-add-own : goal.overflow-add-own
-overflow-add-own c = let up = repeated_part c.args.records.now c.args.i c.requires.stands (sym c.is-repeat.ensures ∙ c.if-not-is-repeat.false) in let o = opened 16 c.args.records.now Shape (c.args.i + 1) (omega arith) up in let f = c.requires.right.few in search rules
+pub overflow_add-own : goal.overflow_add-own
+overflow_add-own c = let up = repeated_part c.args.records.now c.args.i c.requires.stands (sym c.is_repeat.ensures ∙ c.if-not-is_repeat.false) in let o = opened 16 c.args.records.now Shape (c.args.i + 1) (omega arith) up in let f = c.requires.right.few in search rules
 
-pub offset-bounds-kept-i : goal.offset-bounds-kept-i
-offset-bounds-kept-i c = let up = repeated_part c.args.records.now c.args.i c.requires.stands (sym c.is-repeat.ensures ∙ c.if-not-is-repeat.false) in let o = opened 16 c.args.records.now Shape (c.args.i + 1) (omega arith) up in let f = c.requires.right.few in search rules
+pub offset_bounds-kept-i : goal.offset_bounds-kept-i
+offset_bounds-kept-i c = let up = repeated_part c.args.records.now c.args.i c.requires.stands (sym c.is_repeat.ensures ∙ c.if-not-is_repeat.false) in let o = opened 16 c.args.records.now Shape (c.args.i + 1) (omega arith) up in let f = c.requires.right.few in search rules
 
 pub listed : goal.listed
-listed c = let up = repeated_part c.args.records.now c.args.i c.requires.stands (sym c.is-repeat.ensures ∙ c.if-not-is-repeat.false) in let o = opened 16 c.args.records.now Shape (c.args.i + 1) (omega arith) up in let f = c.requires.right.few in search rules
+listed c = let up = repeated_part c.args.records.now c.args.i c.requires.stands (sym c.is_repeat.ensures ∙ c.if-not-is_repeat.false) in let o = opened 16 c.args.records.now Shape (c.args.i + 1) (omega arith) up in let f = c.requires.right.few in search rules
 
 pub bounds-kept-i : goal.bounds-kept-i
-bounds-kept-i c = let up = repeated_part c.args.records.now c.args.i c.requires.stands (sym c.is-repeat.ensures ∙ c.if-not-is-repeat.false) in let o = opened 16 c.args.records.now Shape (c.args.i + 1) (omega arith) up in let f = c.requires.right.few in search rules
+bounds-kept-i c = let up = repeated_part c.args.records.now c.args.i c.requires.stands (sym c.is_repeat.ensures ∙ c.if-not-is_repeat.false) in let o = opened 16 c.args.records.now Shape (c.args.i + 1) (omega arith) up in let f = c.requires.right.few in search rules
 
-pub offset-bounds-kept-i-2 : goal.offset-bounds-kept-i-2
-offset-bounds-kept-i-2 c = let up = repeated_part c.args.records.now c.args.i c.requires.stands (sym c.is-repeat.ensures ∙ c.if-not-is-repeat.false) in let o = opened 16 c.args.records.now Shape (c.args.i + 1) (omega arith) up in let f = c.requires.right.few in search rules
+pub offset_bounds-kept-i-2 : goal.offset_bounds-kept-i-2
+offset_bounds-kept-i-2 c = let up = repeated_part c.args.records.now c.args.i c.requires.stands (sym c.is_repeat.ensures ∙ c.if-not-is_repeat.false) in let o = opened 16 c.args.records.now Shape (c.args.i + 1) (omega arith) up in let f = c.requires.right.few in search rules
 
 pub listed-2 : goal.listed-2
-listed-2 c = let up = repeated_part c.args.records.now c.args.i c.requires.stands (sym c.is-repeat.ensures ∙ c.if-not-is-repeat.false) in let o = opened 16 c.args.records.now Shape (c.args.i + 1) (omega arith) up in let f = c.requires.right.few in search rules
+listed-2 c = let up = repeated_part c.args.records.now c.args.i c.requires.stands (sym c.is_repeat.ensures ∙ c.if-not-is_repeat.false) in let o = opened 16 c.args.records.now Shape (c.args.i + 1) (omega arith) up in let f = c.requires.right.few in search rules
 
 pub bounds-kept-i-2 : goal.bounds-kept-i-2
-bounds-kept-i-2 c = let up = repeated_part c.args.records.now c.args.i c.requires.stands (sym c.is-repeat.ensures ∙ c.if-not-is-repeat.false) in let o = opened 16 c.args.records.now Shape (c.args.i + 1) (omega arith) up in let f = c.requires.right.few in search rules
+bounds-kept-i-2 c = let up = repeated_part c.args.records.now c.args.i c.requires.stands (sym c.is_repeat.ensures ∙ c.if-not-is_repeat.false) in let o = opened 16 c.args.records.now Shape (c.args.i + 1) (omega arith) up in let f = c.requires.right.few in search rules
 
-pub offset-bounds-kept-i-3 : goal.offset-bounds-kept-i-3
-offset-bounds-kept-i-3 c = let up = repeated_part c.args.records.now c.args.i c.requires.stands (sym c.is-repeat.ensures ∙ c.if-not-is-repeat.false) in let o = opened 16 c.args.records.now Shape (c.args.i + 1) (omega arith) up in let f = c.requires.right.few in search rules
+pub offset_bounds-kept-i-3 : goal.offset_bounds-kept-i-3
+offset_bounds-kept-i-3 c = let up = repeated_part c.args.records.now c.args.i c.requires.stands (sym c.is_repeat.ensures ∙ c.if-not-is_repeat.false) in let o = opened 16 c.args.records.now Shape (c.args.i + 1) (omega arith) up in let f = c.requires.right.few in search rules
 
 pub bounds-kept-i-3 : goal.bounds-kept-i-3
-bounds-kept-i-3 c = let up = repeated_part c.args.records.now c.args.i c.requires.stands (sym c.is-repeat.ensures ∙ c.if-not-is-repeat.false) in let o = opened 16 c.args.records.now Shape (c.args.i + 1) (omega arith) up in let f = c.requires.right.few in search rules
+bounds-kept-i-3 c = let up = repeated_part c.args.records.now c.args.i c.requires.stands (sym c.is_repeat.ensures ∙ c.if-not-is_repeat.false) in let o = opened 16 c.args.records.now Shape (c.args.i + 1) (omega arith) up in let f = c.requires.right.few in search rules
 
 pub later-requires : goal.later-requires
 later-requires c =
-    let up = repeated_part c.args.records.now c.args.i c.requires.stands (sym c.is-repeat.ensures ∙ c.if-not-is-repeat.false) in let o = opened 16 c.args.records.now Shape (c.args.i + 1) (omega arith) up in let f = c.requires.right.few in
+    let up = repeated_part c.args.records.now c.args.i c.requires.stands (sym c.is_repeat.ensures ∙ c.if-not-is_repeat.false) in let o = opened 16 c.args.records.now Shape (c.args.i + 1) (omega arith) up in let f = c.requires.right.few in
     let shown = ((c.requires.right.right (c.args.i + 1) (omega arith)).own up _) in
     let e = c.len.ensures.length in
     let s = c.len.ensures.few in
@@ -52,11 +52,11 @@ later-requires c =
 
 pub returns : goal.returns
 returns c =
-    let up = repeated_part c.args.records.now c.args.i c.requires.stands (sym c.is-repeat.ensures ∙ c.if-not-is-repeat.false) in let o = opened 16 c.args.records.now Shape (c.args.i + 1) (omega arith) up in let f = c.requires.right.few in
+    let up = repeated_part c.args.records.now c.args.i c.requires.stands (sym c.is_repeat.ensures ∙ c.if-not-is_repeat.false) in let o = opened 16 c.args.records.now Shape (c.args.i + 1) (omega arith) up in let f = c.requires.right.few in
     let s = c.len.ensures.few in
     repeat_kept c.args.kept.now _ c.args.records.now (steps_of c.args.steps.now) c.args.i c.later.result c.stops.result (omega arith) refl refl refl refl
-    (subst (λ (m : Many). Later c.later.result (rule (steps_of c.args.steps.now) c.args.records.now (c.args.i + 1)) m (length (steps_of c.args.steps.now))) c.many-of.ensures
-    (subst (λ (n : ℕ). Later c.later.result (rule (steps_of c.args.steps.now) c.args.records.now (c.args.i + 1)) c.many-of.result n) c.len.ensures.length
+    (subst (λ (m : Many). Later c.later.result (rule (steps_of c.args.steps.now) c.args.records.now (c.args.i + 1)) m (length (steps_of c.args.steps.now))) c.many_of.ensures
+    (subst (λ (n : ℕ). Later c.later.result (rule (steps_of c.args.steps.now) c.args.records.now (c.args.i + 1)) c.many_of.result n) c.len.ensures.length
     (c.later.ensures (rule (steps_of c.args.steps.now) c.args.records.now (c.args.i + 1)) (own_at c.args.kept.now.own (c.args.i + 1) (rule (steps_of c.args.steps.now) c.args.records.now (c.args.i + 1)) (length (steps_of c.args.steps.now)) c.len.result c.len.ensures.length ((c.requires.right.right (c.args.i + 1) (omega arith)).own up) _))))
     (subst (λ (n : ℕ). Stops c.stops.result (rule (steps_of c.args.steps.now) c.args.records.now (c.args.i + 1)) n) c.len-2.ensures.length
     (c.stops.ensures (rule (steps_of c.args.steps.now) c.args.records.now (c.args.i + 1)) (own_at c.args.kept.now.own (c.args.i + 1) (rule (steps_of c.args.steps.now) c.args.records.now (c.args.i + 1)) (length (steps_of c.args.steps.now)) c.len-2.result c.len-2.ensures.length ((c.requires.right.right (c.args.i + 1) (omega arith)).own up) _)))

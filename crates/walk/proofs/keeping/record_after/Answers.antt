@@ -4,11 +4,11 @@ use Rattle.walk.proofs.Walking.{opened}
 use Rattle.walk.proofs.Standing.{leads_start, leads_here, leads_more, leads_all}
 use Rattle.walk.proofs.keeping.record_after.Goals as goal
 
-pub overflow-add-next : goal.overflow-add-next
-overflow-add-next c = let o = opened 16 c.args.records.now c.requires.stands.0 c.args.i (omega arith) c.requires.stands.1 in let f = c.requires.few in search rules
+pub overflow_add-next : goal.overflow_add-next
+overflow_add-next c = let o = opened 16 c.args.records.now c.requires.stands.0 c.args.i (omega arith) c.requires.stands.1 in let f = c.requires.few in search rules
 
-pub offset-bounds-records-i : goal.offset-bounds-records-i
-offset-bounds-records-i c = let o = opened 16 c.args.records.now c.requires.stands.0 c.args.i (omega arith) c.requires.stands.1 in let f = c.requires.few in search rules
+pub offset_bounds-records-i : goal.offset_bounds-records-i
+offset_bounds-records-i c = let o = opened 16 c.args.records.now c.requires.stands.0 c.args.i (omega arith) c.requires.stands.1 in let f = c.requires.few in search rules
 
 pub bounds-records-i : goal.bounds-records-i
 bounds-records-i c = let o = opened 16 c.args.records.now c.requires.stands.0 c.args.i (omega arith) c.requires.stands.1 in let f = c.requires.few in search rules
@@ -16,8 +16,8 @@ bounds-records-i c = let o = opened 16 c.args.records.now c.requires.stands.0 c.
 pub loop-k-init : goal.loop-k-init
 loop-k-init c = leads_start c.args.records.now c.args.i _ (omega arith) c.requires.stands
 
-pub offset-bounds-kept-next : goal.offset-bounds-kept-next
-offset-bounds-kept-next c =
+pub offset_bounds-kept-next : goal.offset_bounds-kept-next
+offset_bounds-kept-next c =
     let h = leads_here c.args.records.now c.args.i _ ((at c.args.records.now c.args.i).parts - (c.loop-k.k + 1)) c.loop-k.next (omega arith) c.loop-k.invariant in
     let f = c.requires.few in
     search rules

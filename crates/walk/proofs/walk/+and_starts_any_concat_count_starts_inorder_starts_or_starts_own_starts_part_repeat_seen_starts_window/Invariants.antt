@@ -10,8 +10,8 @@ use Rattle.walk.specs.Walk.{rule, rules}
 use Rattle.walk.proofs.Walking.{Left}
 use Rattle.walk.proofs.walk.+and_starts_any_concat_count_starts_inorder_starts_or_starts_own_starts_part_repeat_seen_starts_window.Given as goal
 
-abbrev pub decreases-and-starts : goal.decreases-and-starts
-decreases-and-starts l = 4 * l.levels + 3
+abbrev pub decreases-and_starts : goal.decreases-and_starts
+decreases-and_starts l = 4 * l.levels + 3
 
 abbrev pub decreases-any : goal.decreases-any
 decreases-any l = 4 * l.levels + 3
@@ -19,17 +19,17 @@ decreases-any l = 4 * l.levels + 3
 abbrev pub decreases-concat : goal.decreases-concat
 decreases-concat l = 4 * l.levels + 3
 
-abbrev pub decreases-count-starts : goal.decreases-count-starts
-decreases-count-starts l = 4 * l.levels + 3
+abbrev pub decreases-count_starts : goal.decreases-count_starts
+decreases-count_starts l = 4 * l.levels + 3
 
-abbrev pub decreases-inorder-starts : goal.decreases-inorder-starts
-decreases-inorder-starts l = 4 * l.levels + 3
+abbrev pub decreases-inorder_starts : goal.decreases-inorder_starts
+decreases-inorder_starts l = 4 * l.levels + 3
 
-abbrev pub decreases-or-starts : goal.decreases-or-starts
-decreases-or-starts l = 4 * l.levels + 3
+abbrev pub decreases-or_starts : goal.decreases-or_starts
+decreases-or_starts l = 4 * l.levels + 3
 
-abbrev pub decreases-own-starts : goal.decreases-own-starts
-decreases-own-starts l = 4 * l.levels + 2
+abbrev pub decreases-own_starts : goal.decreases-own_starts
+decreases-own_starts l = 4 * l.levels + 2
 
 abbrev pub decreases-part : goal.decreases-part
 decreases-part l = 4 * l.levels + 2
@@ -46,8 +46,8 @@ decreases-starts l = 4 * l.levels + 1
 abbrev pub decreases-window : goal.decreases-window
 decreases-window l = 4 * l.levels + 3
 
-abbrev pub invariant-and-starts-loop-k : goal.invariant-and-starts-loop-k
-invariant-and-starts-loop-k l =
+abbrev pub invariant-and_starts-loop-k : goal.invariant-and_starts-loop-k
+invariant-and_starts-loop-k l =
     Left l.levels l.records Count l.first (l.parts - l.k) l.next
     × AllStart (rules (steps_of l.steps) l.records l.parts l.first) l.s l.len l.to
     (rules (steps_of l.steps) l.records (l.parts - l.k) l.next) (member l.out)
@@ -67,19 +67,19 @@ invariant-concat-loop-k l =
     Sequel (rules (steps_of l.steps) l.records l.parts l.first) (rules (steps_of l.steps) l.records (l.parts - l.k) l.next)
     v l.to (length (steps_of l.steps)) l.out)
 
-abbrev pub invariant-inorder-starts-loop-k : goal.invariant-inorder-starts-loop-k
-invariant-inorder-starts-loop-k l =
+abbrev pub invariant-inorder_starts-loop-k : goal.invariant-inorder_starts-loop-k
+invariant-inorder_starts-loop-k l =
     Left l.levels l.records Shape l.first (l.parts - l.k) l.next
     × Reaches (rules (steps_of l.steps) l.records l.parts l.first) (rules (steps_of l.steps) l.records (l.parts - l.k) l.next)
     l.s l.to (at l.reach)
 
-abbrev pub invariant-or-starts-loop-k : goal.invariant-or-starts-loop-k
-invariant-or-starts-loop-k l =
+abbrev pub invariant-or_starts-loop-k : goal.invariant-or_starts-loop-k
+invariant-or_starts-loop-k l =
     Left l.levels l.records Count l.first (l.parts - l.k) l.next
     × AnyStart (rules (steps_of l.steps) l.records l.parts l.first) l.s l.len l.to
     (rules (steps_of l.steps) l.records (l.parts - l.k) l.next) (member l.out)
 
 -- the starts below a are found
-abbrev pub invariant-own-starts-loop-a : goal.invariant-own-starts-loop-a
-invariant-own-starts-loop-a l =
+abbrev pub invariant-own_starts-loop-a : goal.invariant-own_starts-loop-a
+invariant-own_starts-loop-a l =
     (x : ℕ) → Decides (member l.out x) ((x < l.a) × ((x + l.len ≤ l.to) × (rule (steps_of l.steps) l.records l.i x x (x + l.len) ≡ true)))

@@ -23,11 +23,11 @@ returns-in-AtLeast c = λ P s.
     (at_least_later P c.args.n c.args.own.now c.rising-piece.result s c.requires.small c.rising-piece.ensures
     c.then.result c.power-in-AtLeast.result c.closure.result c.in-AtLeast.k
     (subst (λ (k : ℕ). (a b : ℕ) → Decides (holds c.power-in-AtLeast.result a b) ((a ≤ c.args.n) × Links (Held c.rising-piece.result) k a b))
-    c.after-first.ensures c.power-in-AtLeast.ensures) c.closure.ensures c.then.ensures)
+    c.after_first.ensures c.power-in-AtLeast.ensures) c.closure.ensures c.then.ensures)
 
 pub returns-else-k-eq0-2 : goal.returns-else-k-eq0-2
 returns-else-k-eq0-2 c = λ P s.
     subst (λ (m : Many). Later c.power-in-AtMost.result P m c.args.n) (sym c.in-AtMost.is)
     (at_most_later P c.args.n c.args.own.now c.rising-piece.result s c.requires.small c.rising-piece.ensures
-    c.still-either.result c.union-with.new.self c.still-either.ensures c.union-with.ensures
+    c.still-either.result c.union_with.new.self c.still-either.ensures c.union_with.ensures
     c.power-in-AtMost.result c.in-AtMost.k (c.in-AtMost.k - 1) (omega arith) c.power-in-AtMost.ensures)

@@ -14,8 +14,8 @@ loop-a-preserved c =
       | then-not-contains w ↦
           subst Inv (sym w.out-is)
           (repeats_put c.lowest-a.result c.args.to c.rising-first.result c.args.later.now c.loop-a.out w.put.new.self
-          c.args.stops.now c.match-view.reached c.allows-null.result (member w.repeat-row.result) c.loop-a.a lo (search rules)
-          (sym c.contains.ensures ∙ w.if-not-contains.true) w.repeat-row.ensures w.put.ensures c.loop-a.invariant)
+          c.args.stops.now c.match-view.reached c.allows-null.result (member w.repeat_row.result) c.loop-a.a lo (search rules)
+          (sym c.contains.ensures ∙ w.if-not-contains.true) w.repeat_row.ensures w.put.ensures c.loop-a.invariant)
       | else-not-contains w ↦
           subst Inv (sym w.out-is)
           (repeats_skip c.lowest-a.result c.args.to c.rising-first.result c.args.later.now c.loop-a.out

@@ -7,8 +7,8 @@ use Rattle.wholes.proofs.Counts.{placed_in, placed_out, window_shows}
 use Rattle.wholes.proofs.windows.shifted.Goals as goal
 use Rattle.wholes.proofs.windows.shifted.Goals.{then-contains, else-contains}
 
-pub overflow-add-a : goal.overflow-add-a
-overflow-add-a c = let u = c.requires.within c.loop-a.a (sym c.if-contains.ensures) in let v = c.requires.small in search rules
+pub overflow_add-a : goal.overflow_add-a
+overflow_add-a c = let u = c.requires.within c.loop-a.a (sym c.if-contains.ensures) in let v = c.requires.small in search rules
 
 pub insert-requires : goal.insert-requires
 insert-requires c = let u = c.requires.within c.loop-a.a (sym c.if-contains.ensures) in let v = c.requires.small in search rules

@@ -15,23 +15,21 @@ eight : {X : Type 0} {a b c d e f g h a' b' c' d' e' f' g' h' : X}
     → (a ∷ b ∷ c ∷ d ∷ e ∷ f ∷ g ∷ h ∷ []) ≡ (a' ∷ b' ∷ c' ∷ d' ∷ e' ∷ f' ∷ g' ∷ h' ∷ [])
 eight p q r s t u v w = λ i. p i ∷ q i ∷ r i ∷ s i ∷ t i ∷ u i ∷ v i ∷ w i ∷ []
 
-pub invariant-of-result : goal.invariant-of-result
-invariant-of-result c =
-    let rows = c.copy-from-slice.ensures.after in
-    let names = eight c.of.ensures c.of-2.ensures c.of-3.ensures c.of-4.ensures c.of-5.ensures c.of-6.ensures c.of-7.ensures c.of-8.ensures in (
-      (refl, begins_length _ _ case_bounds 8 rows refl 24 refl),
-      (
-        (omega arith, omega arith),
-        (
-          ap (every bounds_right) (begins _ _ case_bounds 8 rows refl),
-          (ap (every may_name) names ∙ case-names-right, (ap all_distinct names, tt)),
-        ),
-      ),
-    )
+pub invariant_of-result : goal.invariant_of-result
+invariant_of-result c =
+    let rows = c.copy_from_slice.ensures.after in
+    let names = eight c.of.ensures c.of-2.ensures c.of-3.ensures c.of-4.ensures c.of-5.ensures c.of-6.ensures c.of-7.ensures c.of-8.ensures in
+    record {
+      whole = (refl, begins_length _ _ case_bounds 8 rows refl 24 refl);
+      counted = (omega arith, omega arith);
+      bounded = ap (every bounds_right) (begins _ _ case_bounds 8 rows refl);
+      named = ap (every may_name) names ∙ case-names-right;
+      distinct = ap all_distinct names;
+    }
 
 pub returns : goal.returns
 returns c =
     record {
       names = eight c.of.ensures c.of-2.ensures c.of-3.ensures c.of-4.ensures c.of-5.ensures c.of-6.ensures c.of-7.ensures c.of-8.ensures;
-      bounds = begins _ _ case_bounds 8 c.copy-from-slice.ensures.after refl;
+      bounds = begins _ _ case_bounds 8 c.copy_from_slice.ensures.after refl;
     }

@@ -11,7 +11,7 @@ loop-j-preserved g c =
     let a = c.args.self.now in
     let j = c.loop-j.j in
     let rows = take (a.count - 0) a.rows in
-    let test : ℕ → Bool = λ i. carries (get_or rows i unbounded) (to_z w64 (of_z w64 c.rank-to-rank.result)) c.is-zero-first-zero.result c.is-zero-last-zero.result in
+    let test : ℕ → Bool = λ i. carries (get_or rows i unbounded) (to_z w64 (of_z w64 c.rank_to-rank.result)) c.is_zero-first_zero.result c.is_zero-last_zero.result in
     let long : length rows ≡ a.count - 0 = length-take-le (a.count - 0) a.rows (omega arith) in
     let few : j < 32 = omega arith in
     elim c.if-carried.branch [

@@ -4,4 +4,4 @@ use Rattle.alphabet.specs.Carrying.{carries, unbounded}
 use Rattle.alphabet.proofs.alphabet.Alphabet.word.Given as goal
 
 abbrev pub invariant-loop-j : goal.invariant-loop-j
-invariant-loop-j g l = l.word ≡ word_of (λ j. carries (get_or l.rows j unbounded) l.rank l.first-zero l.last-zero) l.j
+invariant-loop-j g l = l.word ≡ word_of (λ j. carries (get_or l.rows j unbounded) l.rank l.first_zero l.last_zero) l.j

@@ -14,18 +14,18 @@ returns-then-from-step c =
     let runs = take (128 - row.free) (drop row.free row.runs) in
     c.saturating_sub.ensures
     ∙ ap (λ n. n - c.args.step) c.end.ensures
-    ∙ sym (look_in runs c.loop-run.run_index c.args.step c.loop-run-test.true (omega (arith, c.from.ensures)))
+    ∙ sym (look_in runs c.loop-run.run-index c.args.step c.loop-run-test.true (omega (arith, c.from.ensures)))
     ∙ c.loop-run.invariant
 
 pub loop-run-preserved : goal.loop-run-preserved
 loop-run-preserved c =
     let row = c.args.self.now in
     let runs = take (128 - row.free) (drop row.free row.runs) in
-    sym (look_on runs c.loop-run.run_index c.args.step c.loop-run-test.true (omega (arith, c.from.ensures)))
+    sym (look_on runs c.loop-run.run-index c.args.step c.loop-run-test.true (omega (arith, c.from.ensures)))
     ∙ c.loop-run.invariant
 
 pub returns : goal.returns
 returns c =
     let row = c.args.self.now in
     let runs = take (128 - row.free) (drop row.free row.runs) in
-    sym (look_out runs c.loop-run.run_index c.args.step c.loop-run-test.false) ∙ c.loop-run.invariant
+    sym (look_out runs c.loop-run.run-index c.args.step c.loop-run-test.false) ∙ c.loop-run.invariant

@@ -6,7 +6,7 @@ use Rattle.book.proofs.sheet.WordSheetRunBook.add.Goals as goal
 pub invariant_of-self : goal.invariant_of-self
 invariant_of-self c =
     let b = c.args.self.now in
-    (search rules, (narrow_set b.words b.size c.args.word (search rules) (search rules) b.narrow, tt))
+    record { short = search rules; narrow = narrow_set b.words b.size c.args.word (search rules) (search rules) b.narrow }
 
 pub returns : goal.returns
 returns c =

@@ -5,7 +5,7 @@ use Rattle.book.proofs.table.RunTableRunBook.add.Goals as goal
 pub invariant_of-self : goal.invariant_of-self
 invariant_of-self c =
     let b = c.args.self.now in
-    (search rules, (search rules, (pushed_formed b.rows c.push_all.new.rows b.size c.args.word (search rules) b.formed c.push_all.ensures, tt)))
+    record { short = search rules; long = search rules; formed = pushed_formed b.rows c.push_all.new.rows b.size c.args.word (search rules) b.formed c.push_all.ensures }
 
 pub returns : goal.returns
 returns c =

@@ -5,7 +5,7 @@ use Rattle.book.proofs.table.RunTableRunBook.drop_last.Goals as goal
 pub invariant_of-self : goal.invariant_of-self
 invariant_of-self c =
     let b = c.args.self.now in
-    (search rules, (search rules, (popped_formed b.rows c.pop_all.new.rows (b.size - 1) (search rules) c.pop_all.ensures, tt)))
+    record { short = search rules; long = search rules; formed = popped_formed b.rows c.pop_all.new.rows (b.size - 1) (search rules) c.pop_all.ensures }
 
 pub returns : goal.returns
 returns c =

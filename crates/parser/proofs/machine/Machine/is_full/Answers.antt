@@ -1,4 +1,4 @@
-use Rattle.std.proofs.Common.{◌≡◌, not, eqb, sym, ap, ◌∙◌, arith}
+use Rattle.std.proofs.Common.{not, eqb, sym, ap, ◌∙◌, arith}
 use Rattle.std.proofs.lemmas.Bool.{or_parts, eqb-false}
 use Rattle.parser.proofs.Store.{room_is, full_is}
 use Rattle.parser.proofs.machine.Machine.is_full.Goals as goal
@@ -6,7 +6,7 @@ use Rattle.parser.proofs.machine.Machine.is_full.Goals as goal
 pub returns : goal.returns
 returns c =
     let m = c.args.self.now in
-    let e = c.at-limit.ensures in
+    let e = c.at_limit.ensures in
     record {
       full = e ∙ full_is m.free m.count m.few ∙ sym (ap not (room_is m.levels m.nodes m.free m.count m.wide m.deep m.few m.long));
       space = λ f.

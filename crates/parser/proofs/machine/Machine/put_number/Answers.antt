@@ -1,4 +1,4 @@
-use Rattle.std.proofs.Common.{◌≡◌, get_or, take, drop, set, ap, ◌∙◌, arith}
+use Rattle.std.proofs.Common.{drop, ap, arith}
 use Rattle.query.specs.Stands.{blank}
 use Rattle.grammar.specs.Machine.{state, numbered}
 use Rattle.parser.proofs.Store.{change_at, change_none}

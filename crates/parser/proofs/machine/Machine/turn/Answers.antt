@@ -1,4 +1,4 @@
-use Rattle.std.proofs.Common.{get_or, take, ap, arith}
+use Rattle.std.proofs.Common.{take, ap, arith}
 use Rattle.grammar.specs.Machine.{state, level}
 use Rattle.query.specs.declared.node.Kind.TheVariants.{Symbol}
 use Rattle.grammar.specs.declared.types.Need.TheVariants.{Close}

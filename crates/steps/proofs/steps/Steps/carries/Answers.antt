@@ -6,26 +6,26 @@ use Rattle.steps.specs.Meaning.{steps_of}
 use Rattle.steps.proofs.Length.{carries_past}
 use Rattle.steps.proofs.steps.Steps.carries.Goals as goal
 
-pub offset-bounds-self-a : goal.offset-bounds-self-a
-offset-bounds-self-a c =
-    let l = ltb-true c.args.a c.args.self.now.count (sym c.has-step.ensures.here ∙ c.if-has-step.true) in
-    let f = c.has-step.ensures.few in
+pub offset_bounds-self-a : goal.offset_bounds-self-a
+offset_bounds-self-a c =
+    let l = ltb-true c.args.a c.args.self.now.count (sym c.has_step.ensures.here ∙ c.if-has_step.true) in
+    let f = c.has_step.ensures.few in
     search rules
 
 pub bounds-self-a : goal.bounds-self-a
 bounds-self-a c =
-    let l = ltb-true c.args.a c.args.self.now.count (sym c.has-step.ensures.here ∙ c.if-has-step.true) in
-    let f = c.has-step.ensures.few in
+    let l = ltb-true c.args.a c.args.self.now.count (sym c.has_step.ensures.here ∙ c.if-has_step.true) in
+    let f = c.has_step.ensures.few in
     search rules
 
-pub returns-then-has-step : goal.returns-then-has-step
+pub returns-then-has_step : goal.returns-then-has_step
 unfolding steps_of
-returns-then-has-step c =
+returns-then-has_step c =
     c.carries.ensures
     ∙ sym (ap (λ (x : ℕ). has x c.args.symbol) (get_or-take c.args.self.now.count c.args.self.now.words c.args.a 0
-    (ltb-true c.args.a c.args.self.now.count (sym c.has-step.ensures.here ∙ c.if-has-step.true))))
+    (ltb-true c.args.a c.args.self.now.count (sym c.has_step.ensures.here ∙ c.if-has_step.true))))
 
-pub returns-else-has-step : goal.returns-else-has-step
-returns-else-has-step c =
-    let u = ltb-false c.args.a c.args.self.now.count (sym c.has-step.ensures.here ∙ c.if-has-step.false) in
-    c.if-has-step.false ∙ sym (carries_past c.args.self.now c.args.a c.args.symbol (omega arith) c.has-step.ensures.few)
+pub returns-else-has_step : goal.returns-else-has_step
+returns-else-has_step c =
+    let u = ltb-false c.args.a c.args.self.now.count (sym c.has_step.ensures.here ∙ c.if-has_step.false) in
+    c.if-has_step.false ∙ sym (carries_past c.args.self.now c.args.a c.args.symbol (omega arith) c.has_step.ensures.few)

@@ -5,9 +5,9 @@ use Rattle.steps.specs.Meaning.{steps_of}
 use Rattle.steps.proofs.Length.{steps_count}
 use Rattle.steps.proofs.steps.Steps.push.Goals as goal
 
-pub returns-then-is-full : goal.returns-then-is-full
-returns-then-is-full c =
-    let e = eqb-true c.args.self.now.count 255 (sym c.is-full.ensures ∙ c.if-is-full.true) in
+pub returns-then-is_full : goal.returns-then-is_full
+returns-then-is_full c =
+    let e = eqb-true c.args.self.now.count 255 (sym c.is_full.ensures ∙ c.if-is_full.true) in
     (steps_count c.args.self.now (omega arith) ∙ e, refl)
 
 pub returns : goal.returns

@@ -7,8 +7,8 @@ use Rattle.tables.proofs.table.Table.after.Goals as goal
 pub loop-c-preserved : goal.loop-c-preserved
 unfolding within
 loop-c-preserved c =
-    gathered_more (member c.args.starts.now) c.args.self.now (member c.loop-c.all) (member c.union-with.new.self)
-    c.loop-c.c c.next-from-c-in-loop-c.result (search rules) c.union-with.ensures c.next-from-c-in-loop-c.ensures c.loop-c.invariant
+    gathered_more (member c.args.starts.now) c.args.self.now (member c.loop-c.all) (member c.union_with.new.self)
+    c.loop-c.c c.next_from-c-in-loop-c.result (search rules) c.union_with.ensures c.next_from-c-in-loop-c.ensures c.loop-c.invariant
 
 pub returns : goal.returns
 returns c =

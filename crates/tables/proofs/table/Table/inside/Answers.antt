@@ -16,8 +16,8 @@ loop-x-init c =
 few : (more : ℕ) (m : ℕ → mathlib.Core.Bool.Bool) → more ≡ tally 256 0 m → more ≤ 256
 few more m e = let t = tally_le m 256 0 in omega arith
 
-pub overflow-add-total : goal.overflow-add-total
-overflow-add-total c =
+pub overflow_add-total : goal.overflow_add-total
+overflow_add-total c =
     let t = few c.len-total.result (member c.keep.new.self) c.len-total.ensures in
     let i = c.loop-x.invariant.1 in
     search rules

@@ -7,8 +7,8 @@ use Rattle.tables.proofs.table.Table.reached.Goals as goal
 pub loop-from-preserved : goal.loop-from-preserved
 unfolding within
 loop-from-preserved c =
-    rows_gathered (member c.loop-from.all) c.args.self.now (member c.loop-from.all) (member c.union-with.new.self) c.loop-from.from
-    c.union-with.ensures c.loop-from.invariant
+    rows_gathered (member c.loop-from.all) c.args.self.now (member c.loop-from.all) (member c.union_with.new.self) c.loop-from.from
+    c.union_with.ensures c.loop-from.invariant
 
 pub returns : goal.returns
 returns c = λ b. (

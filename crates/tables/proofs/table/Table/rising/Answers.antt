@@ -8,10 +8,10 @@ pub loop-start-preserved : goal.loop-start-preserved
 unfolding within
 loop-start-preserved c = (
   search rules,
-  rows_more c.loop-start.rows c.loop-start.start c.keep-right.new.self
+  rows_more c.loop-start.rows c.loop-start.start c.keep_right.new.self
       (λ x y. (ltb x y && ltb y 256) && holds c.args.self.now x y) (λ x y. holds c.args.self.now x y)
       (search rules)
-      (λ y old. c.keep-right.ensures y ∙ ap (λ (u : Bool). (ltb c.loop-start.start y && ltb y 256) && u) old)
+      (λ y old. c.keep_right.ensures y ∙ ap (λ (u : Bool). (ltb c.loop-start.start y && ltb y 256) && u) old)
       c.loop-start.invariant.1,
 )
 

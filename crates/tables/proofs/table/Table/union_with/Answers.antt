@@ -8,10 +8,10 @@ pub loop-x-preserved : goal.loop-x-preserved
 unfolding within
 loop-x-preserved c = (
   search rules,
-  rows_more c.loop-x.self.rows c.loop-x.x c.union-with.new.self
+  rows_more c.loop-x.self.rows c.loop-x.x c.union_with.new.self
       (λ x y. holds c.args.self.now x y || holds c.args.other.now x y) (λ x y. holds c.args.self.now x y)
       (search rules)
-      (λ y old. c.union-with.ensures y ∙ ap (λ (u : Bool). u || member (get_or c.args.other.now.rows c.loop-x.x nothing) y) old)
+      (λ y old. c.union_with.ensures y ∙ ap (λ (u : Bool). u || member (get_or c.args.other.now.rows c.loop-x.x nothing) y) old)
       c.loop-x.invariant.1,
 )
 

@@ -3,8 +3,8 @@ use Rattle.wholes.specs.Turns.{at}
 use Rattle.wholes.proofs.Placing.{written_more}
 use Rattle.wholes.proofs.reach.Reach.advance.Goals as goal
 
-pub offset-bounds-part-self : goal.offset-bounds-part-self
-offset-bounds-part-self c = let s = c.args.self.now.small c.loop-from.from in search rules
+pub offset_bounds-part-self : goal.offset_bounds-part-self
+offset_bounds-part-self c = let s = c.args.self.now.small c.loop-from.from in search rules
 
 pub bounds-part-self : goal.bounds-part-self
 bounds-part-self c = let s = c.args.self.now.small c.loop-from.from in search rules
@@ -15,8 +15,8 @@ loop-from-preserved c =
     (at c.args.part.now (at c.args.self.now c.loop-from.from)) (search rules) refl
     (c.args.part.now.small (at c.args.self.now c.loop-from.from)) c.loop-from.invariant
 
-pub invariant-of-result : goal.invariant-of-result
-invariant-of-result c = (c.loop-from.invariant.long, (c.loop-from.invariant.small, tt))
+pub invariant_of-result : goal.invariant_of-result
+invariant_of-result c = record { whole = c.loop-from.invariant.long; small = c.loop-from.invariant.small }
 
 pub returns : goal.returns
 returns c = λ a l. c.loop-from.invariant.done a (search rules)

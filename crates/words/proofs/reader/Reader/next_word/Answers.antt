@@ -1,6 +1,5 @@
-use Rattle.std.proofs.Common.{◌≡◌, ◌≤◌, drop, sym, refl, ap, ◌∙◌, ⊎_elim, arith}
+use Rattle.std.proofs.Common.{◌≤◌, sym, refl, ◌∙◌, ⊎_elim, arith}
 use Rattle.words.specs.declared.Class.TheVariants.{Blank, Letter, Digit, Open, Close, Other}
-use Rattle.words.specs.Words.{stream}
 use Rattle.words.proofs.Rows.{skip_at, end_at, one_at, name_at, number_at, past_row_at, spans}
 use Rattle.words.proofs.reader.Reader.next_word.Goals as goal
 use Rattle.words.proofs.reader.Reader.next_word.Goals.{in-Letter, in-Digit, in-Open, in-Close}

@@ -16,7 +16,7 @@ pub returns : goal.returns
 returns c =
     let p = c.args.self.now in
     record {
-      stack = begun_some p.left p.free _ (omega arith) c.saturating-sub.ensures;
+      stack = begun_some p.left p.free _ (omega arith) c.saturating_sub.ensures;
       same = refl;
       wrote = wrote_as (gap_some p.left p.free (omega arith)) c.put.ensures;
     }

@@ -6,13 +6,13 @@ use Rattle.writer.proofs.pen.Pen.shut.Goals as goal
 pub loop-self-init : goal.loop-self-init
 loop-self-init c = shutting_none (open_now c.args.self.now) c.args.out.now c.args.at c.args.self.now.free
 
-pub put-close-end-requires : goal.put-close-end-requires
-put-close-end-requires c = omega (arith, c.loop-self.invariant.sums)
+pub put_close-end-requires : goal.put_close-end-requires
+put_close-end-requires c = omega (arith, c.loop-self.invariant.sums)
 
 pub loop-self-preserved : goal.loop-self-preserved
 loop-self-preserved c =
     let p = c.loop-self.self in
-    shutting_more _ c.put-close-end.new.out c.put-close-end.result c.loop-self.invariant (shuts_here p.left p.free (omega arith) c.if-self-eq0.true) c.put-close-end.ensures
+    shutting_more _ c.put_close-end.new.out c.put_close-end.result c.loop-self.invariant (shuts_here p.left p.free (omega arith) c.if-self-eq0.true) c.put_close-end.ensures
     (omega (arith, c.loop-self.invariant.sums))
 
 pub returns-else-self-eq0 : goal.returns-else-self-eq0
