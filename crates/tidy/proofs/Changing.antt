@@ -1,7 +1,7 @@
 -- Which change each rule asks for, and that no rule applies where none is asked for.
-use Rattle.std.proofs.Common.{◌≡◌, ℕ, zero, suc, ◌+◌, ◌-◌, ◌<◌, ◌≤◌, Bool, true, false, cond, not, ◌&&◌, ◌||◌, eqb, ltb, leb, List, [], ◌∷◌, ◌++◌, length, take, drop, is_some, Some, None, Option, sym, refl, ap, ◌∙◌, subst, ap₂, arith}
+use Rattle.std.proofs.Common.{◌≡◌, ℕ, ◌+◌, ◌-◌, ◌≤◌, Bool, true, false, cond, not, ◌&&◌, ◌||◌, eqb, ltb, List, ◌++◌, length, take, drop, is_some, Some, None, Option, sym, refl, ap, ◌∙◌, subst, ap₂, arith}
 use Rattle.std.proofs.lemmas.List.{take_at, length-append, length-drop}
-use Rattle.std.proofs.lemmas.Bool.{and_parts, and_from, and_left, and_right, and_cases, or_parts, or_from, or_left, or_right, or_cases, cases_Bool, cond-true, cond-false, eqb-true, ne_eqb, eqb-false, ltb-true, le-ltb, lt-ltb, false≢true, true≢false}
+use Rattle.std.proofs.lemmas.Bool.{and_parts, and_from, and_left, and_right, or_parts, or_from, cond-true, eqb-true, ne_eqb, ltb-true, false≢true, true≢false}
 use Rattle.query.specs.declared.node.Kind.{Kind}
 use Rattle.query.specs.declared.node.Kind.TheVariants.{Symbol, Any, Concat, Exact, Atleast, Atmost, In, Precisely, Noless, Nomore, And, Or, Inorder}
 use Rattle.query.specs.declared.node.Node.{Node}
@@ -11,24 +11,24 @@ use Rattle.query.specs.Kinds.{same_kind}
 use Rattle.query.specs.Tree.{Query, node, Queries, none, more, count, records, records_each, alike, alike_each}
 use Rattle.query.specs.Rules.{parts_right, keeps}
 use Rattle.query.specs.Stands.{at}
-use Rattle.query.proofs.Alike.{same_kind_is, same_kind_refl}
-use Rattle.rules.specs.Applies.{kind_of, number_of, parts_of, repeats, unordered, gathers, some_part, some_pair, some_next, over_one, empty, merges, windowed_each, unnesting, doubles, single_part, dead_sequence, neighbours, alternatives, stands_alone, nested_repeats, applies_here}
+use Rattle.query.proofs.Alike.{same_kind_is}
+use Rattle.rules.specs.Applies.{kind_of, number_of, repeats, unordered, gathers, some_part, some_pair, some_next, over_one, empty, merges, windowed_each, stands_alone, applies_here}
 use Rattle.rules.specs.Parts.{join, merged_kind, merged_number, renamed}
-use Rattle.rules.specs.Places.{Here, Row, Stands, Stand, Kept, Ends, Found_at, Finds, any_window}
+use Rattle.rules.specs.Places.{Here, Row, Stands, Kept, Ends, Finds, any_window}
 use Rattle.rules.specs.Shorter.{Shorter}
-use Rattle.rules.proofs.Cases.{on_gathers, on_unordered, on_repeats}
-use Rattle.rules.proofs.Cursor.{whole_of, row_head, row_from, here_after, here_inside, part_of_row}
+use Rattle.rules.proofs.Cases.{on_gathers, on_unordered}
+use Rattle.rules.proofs.Cursor.{whole_of, row_head, here_after, here_inside, part_of_row}
 use Rattle.rules.proofs.Parts.{size_node}
-use Rattle.rules.proofs.Shorter.{Keeps, keeps_parts, unnest_shorter, double_shorter, neighbour_shorter, alternative_shorter, single_shorter, lift_shorter, dead_shorter, neighbours_shorter, nested_shorter}
+use Rattle.rules.proofs.Shorter.{keeps_parts, unnest_shorter, double_shorter, neighbour_shorter, alternative_shorter, single_shorter, lift_shorter, dead_shorter, neighbours_shorter, nested_shorter}
 use Rattle.rules.proofs.Walking.{window_records_each}
 use Rattle.tidy.specs.declared.outcome.Outcome.{Outcome}
 use Rattle.tidy.specs.declared.outcome.Outcome.TheVariants.{Apart, Joined, Dead}
 use Rattle.tidy.specs.declared.change.Change.{Change}
 use Rattle.tidy.specs.declared.change.Change.TheVariants.{Lift, Clear, Unnest, Join}
 use Rattle.tidy.specs.declared.wanted.Wanted.TheVariants.{Like, Empty}
-use Rattle.tidy.specs.Outcomes.{neighbours_become, alternatives_become, repeats_become, become, of_pair, speaks, first_of, within, some_joined}
+use Rattle.tidy.specs.Outcomes.{repeats_become, of_pair, speaks, within, some_joined}
 use Rattle.tidy.specs.Searches.{wants, Judges, Pairs}
-use Rattle.tidy.specs.Changes.{strict, Lifts, Clears, Unnests, Joins, Makes, Shortens, JoinedBy, Joining, Changed, Changes, Alone, nested_become}
+use Rattle.tidy.specs.Changes.{strict, Shortens, Joining, Changed, Changes, Alone, nested_become}
 
 -- a kept query stands
 pub kept_stands : (ns : List Node) (i : ℕ) → Kept ns i → Stands ns i

@@ -1,6 +1,6 @@
 -- Records cut out of a sheet, and what a change of records makes of the query that they are.
-use Rattle.std.proofs.Common.{◌≡◌, ℕ, zero, suc, ◌+◌, ◌-◌, ◌<◌, ◌≤◌, Bool, true, false, ltb, List, [], ◌∷◌, ◌++◌, length, get_or, take, drop, set, replicate, sym, refl, ap, ◌∙◌, subst, ap₂, inl, inr, append_assoc, append-nil, arith}
-use Rattle.std.proofs.lemmas.List.{length-append, length-drop, length-take-le, length-replicate, length-set, take-append-drop, take_all, drop_all, take_more, drop_more, take_at, drop_at, set_at, get_or-append_right, get_or_append_left, get_or_past, get_or-drop, get_or-replicate, get_or-take}
+use Rattle.std.proofs.Common.{◌≡◌, ℕ, suc, ◌+◌, ◌-◌, ◌<◌, ◌≤◌, ltb, List, [], ◌∷◌, ◌++◌, length, get_or, take, drop, set, replicate, sym, refl, ap, ◌∙◌, subst, ap₂, inl, inr, append_assoc, append-nil, arith}
+use Rattle.std.proofs.lemmas.List.{length-append, length-drop, length-take-le, length-replicate, length-set, take-append-drop, take_all, drop_all, take_more, drop_more, take_at, drop_at, set_at, get_or-append_right, get_or_append_left, get_or_past, get_or-drop, get_or-replicate}
 use Rattle.std.proofs.lemmas.Bool.{cases_lt, cond_both, ltb-false}
 use Rattle.query.specs.declared.node.Kind.{Kind}
 use Rattle.query.specs.declared.node.Kind.TheVariants.{Any}
@@ -8,13 +8,12 @@ use Rattle.query.specs.declared.node.Node.{Node}
 use Rattle.query.specs.Tree.{Query, node, Queries, none, more, count, records, records_each}
 use Rattle.query.specs.Stands.{blank, at}
 use Rattle.rules.specs.Parts.{join, renamed}
-use Rattle.rules.specs.Places.{Here, Row, Stands, Ends}
+use Rattle.rules.specs.Places.{Here, Stands, Ends}
 use Rattle.rules.proofs.Parts.{count_join, records_join, size_join, size_more, size_node}
 use Rattle.rules.proofs.Cursor.{whole_of, here_after, here_inside, part_of_row, row_head}
 use Rattle.rules.proofs.Walking.{none_long, row_long}
-use Rattle.tidy.specs.declared.change.Change.{Change}
 use Rattle.tidy.specs.declared.change.Change.TheVariants.{Lift, Clear, Unnest, Join}
-use Rattle.tidy.specs.Changes.{Lifts, Clears, Unnests, Joins, Makes}
+use Rattle.tidy.specs.Changes.{Joins}
 use Rattle.tidy.specs.Edits.{moved_up, cut_out, replaced, Makeable, Made}
 
 -- Cutting, record by record

@@ -1,23 +1,21 @@
 -- The searches for parts, step by step.
-use Rattle.std.proofs.Common.{◌≡◌, ℕ, zero, suc, ◌+◌, ◌-◌, ◌<◌, ◌≤◌, min, Bool, true, false, cond, ◌&&◌, ◌||◌, List, [], ◌∷◌, ◌++◌, length, drop, Some, None, sym, refl, ap, ◌∙◌, subst, ap₂, append-nil, arith}
-use Rattle.std.proofs.lemmas.Bool.{cases_Bool, cond-true, cond-false}
+use Rattle.std.proofs.Common.{◌≡◌, ℕ, suc, ◌+◌, ◌-◌, ◌<◌, ◌≤◌, min, Bool, true, false, cond, ◌||◌, List, ◌++◌, length, drop, Some, None, sym, refl, ap, ◌∙◌, subst, ap₂, append-nil, arith}
 use Rattle.query.specs.declared.node.Kind.{Kind}
 use Rattle.query.specs.declared.node.Kind.TheVariants.{Concat}
 use Rattle.query.specs.declared.node.Node.{Node}
 use Rattle.query.specs.Kinds.{same_kind}
-use Rattle.query.specs.Tree.{Query, node, Queries, none, more, count, records, records_each, alike_each}
+use Rattle.query.specs.Tree.{Query, node, Queries, none, more, count, records, records_each}
 use Rattle.query.specs.Stands.{at}
-use Rattle.query.proofs.Alike.{same_kind_is, same_kind_refl}
-use Rattle.rules.specs.Applies.{some_part, kind_of, number_of, parts_of}
+use Rattle.query.proofs.Alike.{same_kind_refl}
 use Rattle.rules.specs.Parts.{join}
-use Rattle.rules.specs.Places.{Here, Row, Stands, Stand, Ends, Compares, Found_at, Finds}
-use Rattle.rules.proofs.Cursor.{Cursor, cursor_next, cursor_more, cursor_end, whole_of, row_head, row_from, here_after, join_none}
+use Rattle.rules.specs.Places.{Here, Row, Stands, Stand, Ends, Compares, Finds}
+use Rattle.rules.proofs.Cursor.{Cursor, cursor_next, cursor_more, cursor_end, whole_of, row_head, here_after}
 use Rattle.rules.proofs.Walking.{alike_count}
 use Rattle.tidy.specs.declared.outcome.Outcome.{Outcome}
 use Rattle.tidy.specs.declared.wanted.Wanted.{Wanted}
 use Rattle.tidy.specs.declared.wanted.Wanted.TheVariants.{Like, Empty}
 use Rattle.tidy.specs.Outcomes.{become, of_pair, speaks, reach, first_of, within, some_joined}
-use Rattle.tidy.specs.Searches.{wants, wants_record, PartsCompare, Judges, PairAt, Pairs}
+use Rattle.tidy.specs.Searches.{wants, wants_record, PartsCompare, Judges, Pairs}
 
 -- a part is wanted just where its record says so
 pub wanted_here : (w : Wanted) (ns : List Node) (i : ℕ) (t : Bool) → t ≡ wants_record w (at ns i) →

@@ -1,23 +1,22 @@
 -- What tidying promises, from the steps that it takes.
-use Rattle.std.proofs.Common.{◌≡◌, ℕ, ◌+◌, ◌-◌, ◌<◌, ◌≤◌, Bool, true, false, cond, ◌&&◌, ltb, leb, List, [], ◌∷◌, ◌++◌, length, take, drop, replicate, Some, None, Ok, sym, refl, ap, ◌∙◌, subst, ap₂, arith}
+use Rattle.std.proofs.Common.{◌≡◌, ℕ, ◌+◌, ◌-◌, ◌≤◌, Bool, true, false, cond, ◌&&◌, ltb, leb, List, ◌++◌, length, take, drop, replicate, Some, None, Ok, sym, refl, ap, ◌∙◌, ap₂, arith}
 use Rattle.std.proofs.lemmas.List.{length-take-le, take_at, drop_at, drop_all, replicate-append-replicate}
 use Rattle.std.proofs.lemmas.Bool.{and_parts, and_from, leb-true, le-leb, ltb-false}
 use Rattle.query.specs.declared.node.Node.{Node}
 use Rattle.query.specs.declared.node.Role.TheVariants.{Shape}
 use Rattle.query.specs.declared.node.Stage.{Stage}
 use Rattle.query.specs.declared.node.Stage.TheVariants.{Bound}
-use Rattle.query.specs.Tree.{Query, node, records, levels}
-use Rattle.query.specs.Rules.{keeps, well, AreQuery}
+use Rattle.query.specs.Tree.{Query, records, levels}
+use Rattle.query.specs.Rules.{keeps, well}
 use Rattle.query.specs.Stands.{blank, is_query, query_in}
 use Rattle.query.proofs.Standing.{is_query_sound, is_query_found}
 use Rattle.shape.specs.Fits.{fits}
 use Rattle.rules.specs.Applies.{applies}
-use Rattle.rules.specs.Laws.{FitAlike}
 use Rattle.rules.specs.Places.{Here, KeptWithin}
 use Rattle.rules.proofs.Cursor.{here_inside}
 use Rattle.tidy.specs.declared.fault.TidyFault.TheVariants.{Short, Unbound}
 use Rattle.tidy.specs.Edits.{cut_out}
-use Rattle.tidy.specs.Promise.{refusal, Tidied, Answers, Settled, Settles}
+use Rattle.tidy.specs.Promise.{refusal, Answers, Settled, Settles}
 
 -- the three things that make a query one of its stage
 pub well_parts : (s : Stage) (q : Query) → well s q ≡ true → (keeps s Shape q ≡ true) × (levels q ≤ 16) × (length (records q) ≤ 64)

@@ -1,26 +1,25 @@
 -- One rule applied in a query, and rules applied until none applies.
-use Rattle.std.proofs.Common.{◌≡◌, ℕ, zero, suc, ◌+◌, ◌-◌, ◌<◌, ◌≤◌, max, Bool, true, false, ◌&&◌, ◌||◌, List, [], ◌∷◌, ◌++◌, length, take, drop, replicate, Some, None, Option, sym, refl, ap, ◌∙◌, subst, ap₂, append_assoc, append-nil, arith}
+use Rattle.std.proofs.Common.{◌≡◌, ℕ, suc, ◌+◌, ◌-◌, ◌<◌, ◌≤◌, Bool, true, ◌||◌, List, ◌∷◌, ◌++◌, length, take, replicate, Some, None, sym, refl, ap, ◌∙◌, subst, append_assoc, append-nil, arith}
 use Rattle.std.proofs.lemmas.List.{length-append, take_at, replicate-append-replicate}
-use Rattle.std.proofs.lemmas.Bool.{or_parts, or_from}
+use Rattle.std.proofs.lemmas.Bool.{or_from}
 use Rattle.query.specs.declared.node.Kind.{Kind}
 use Rattle.query.specs.declared.node.Node.{Node}
 use Rattle.query.specs.declared.node.Role.{Role}
 use Rattle.query.specs.declared.node.Stage.{Stage}
-use Rattle.query.specs.Tree.{Query, node, Queries, none, more, count, records, records_each, levels, levels_each}
+use Rattle.query.specs.Tree.{Query, node, Queries, more, count, records, records_each, levels, levels_each}
 use Rattle.query.specs.Rules.{part_role, keeps, keeps_each}
 use Rattle.query.specs.Stands.{blank, at, next_at}
 use Rattle.query.proofs.Standing.{found}
-use Rattle.rules.specs.Applies.{parts_of, applies_here, applies, applies_in}
+use Rattle.rules.specs.Applies.{parts_of, applies, applies_in}
 use Rattle.rules.specs.Parts.{join}
-use Rattle.rules.specs.Places.{Here, Row, Kept, KeptWithin, Stand}
+use Rattle.rules.specs.Places.{Here, Kept, KeptWithin}
 use Rattle.rules.specs.Shorter.{Shorter}
 use Rattle.rules.proofs.Parts.{count_join, records_join, size_join, size_more, size_node, levels_join, levels_more, levels_node}
 use Rattle.rules.proofs.Shorter.{keeps_parts, each_keeps, more_keeps, shorter_in}
-use Rattle.rules.proofs.Cursor.{Passed, passed_start, passed_next, passed_more, passed_end, whole_of, row_head, here_after, here_inside, join_group}
-use Rattle.rules.proofs.Walking.{none_long}
+use Rattle.rules.proofs.Cursor.{Passed, passed_start, passed_next, passed_more, passed_end, whole_of, row_head, here_inside}
 use Rattle.tidy.specs.declared.change.Change.{Change}
-use Rattle.tidy.specs.Changes.{Makes, Changes}
-use Rattle.tidy.specs.Edits.{replaced, Makeable, Made, Stepped, Steps}
+use Rattle.tidy.specs.Changes.{Changes}
+use Rattle.tidy.specs.Edits.{replaced, Makeable, Made, Steps}
 use Rattle.tidy.specs.Promise.{Settled, Settles}
 use Rattle.tidy.proofs.Editing.{own, own_first, around, here_long}
 

@@ -15,7 +15,7 @@ mod edits;
 mod fault;
 mod outcome;
 mod pairs;
-mod rules;
+mod rule;
 mod search;
 mod settle;
 mod walk;

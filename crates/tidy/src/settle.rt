@@ -5,7 +5,7 @@ ghost use Rattle.tidy.specs.Edits.{Steps};
 ghost use Rattle.tidy.specs.Promise.{Settles};
 
 use crate::edits::make;
-use crate::rules::find_change;
+use crate::rule::find_change;
 use query::Node;
 
 // Applies one rule in the query at index i, in its parts first. Where none applies, the index after the query.

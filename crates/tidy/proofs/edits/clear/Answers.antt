@@ -1,4 +1,3 @@
-use Rattle.std.proofs.Common.{arith}
 use Rattle.std.proofs.lemmas.List.{length-set}
 use Rattle.tidy.proofs.Changing.{ends_inside}
 use Rattle.tidy.proofs.Editing.{clear_made}

@@ -1,4 +1,4 @@
-use Rattle.std.proofs.Common.{◌+◌, sym, arith}
+use Rattle.std.proofs.Common.{◌+◌}
 use Rattle.rules.specs.Applies.{some_part}
 use Rattle.rules.proofs.Cursor.{cursor_start, cursor_room, cursor_stands, part_passed, part_found, part_missing}
 use Rattle.tidy.specs.Searches.{wants}

@@ -1,6 +1,6 @@
 use Rattle.std.proofs.Common.{sym}
 use Rattle.tidy.proofs.Changing.{inner_stands, other_change}
-use Rattle.tidy.proofs.rules.find_change.Goals as goal
+use Rattle.tidy.proofs.rule.find_change.Goals as goal
 
 pub repeat_change-requires : goal.repeat_change-requires
 repeat_change-requires c = record {

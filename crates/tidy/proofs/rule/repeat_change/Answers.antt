@@ -1,6 +1,5 @@
-use Rattle.std.proofs.Common.{refl}
 use Rattle.tidy.proofs.Changing.{nested_change}
-use Rattle.tidy.proofs.rules.repeat_change.Goals as goal
+use Rattle.tidy.proofs.rule.repeat_change.Goals as goal
 
 pub returns : goal.returns
 returns c =

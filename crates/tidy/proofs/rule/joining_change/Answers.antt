@@ -1,7 +1,7 @@
 use Rattle.std.proofs.Common.{refl}
 use Rattle.tidy.proofs.Finding.{parts_stand}
 use Rattle.tidy.proofs.Changing.{pair_stands, join_change, clear_change, never_apart, nothing_joins}
-use Rattle.tidy.proofs.rules.joining_change.Goals as goal
+use Rattle.tidy.proofs.rule.joining_change.Goals as goal
 
 pub find_pair-requires : goal.find_pair-requires
 find_pair-requires c = record { stand = parts_stand c.args.records.now c.args.i c.requires.stands }

@@ -1,6 +1,6 @@
 use Rattle.std.proofs.Common.{arith}
 use Rattle.tidy.proofs.Changing.{alone_here, ends_inside}
-use Rattle.tidy.proofs.rules.stands_alone.Goals as goal
+use Rattle.tidy.proofs.rule.stands_alone.Goals as goal
 
 pub slice_bounds-has_window-count : goal.slice_bounds-has_window-count
 slice_bounds-has_window-count c = let h = ends_inside c.args.records.now c.args.i c.part_end-end.result c.requires.stands c.part_end-end.ensures in omega arith

@@ -1,6 +1,6 @@
 use Rattle.tidy.proofs.Finding.{parts_stand}
 use Rattle.tidy.proofs.Changing.{kept_stands, single_change, unnest_change, cleared, not_cleared, joins_change}
-use Rattle.tidy.proofs.rules.gathering_change.Goals as goal
+use Rattle.tidy.proofs.rule.gathering_change.Goals as goal
 
 pub returns-then-node-eq1 : goal.returns-then-node-eq1
 returns-then-node-eq1 c = single_change c.args.records.now c.args.i c.requires.gathers c.if-node-eq1.true
