@@ -1,7 +1,7 @@
 -- The tests of a sheet tell what they should.
 use Rattle.std.proofs.Common.{◌≡◌, ℕ, zero, suc, ◌<◌, ◌≤◌, Bool, true, false, cond, not, ◌&&◌, ◌||◌, T, eqb, leb, List, [], ◌∷◌, ◌++◌, length, get_or, take, drop, replicate, ℤ, neg_ℤ, ◌≤ℤ◌, is_some, Some, None, Ok, Err, Decides, Option, Result, sym, refl, ap, ◌∙◌, subst, ⊎_elim, arith}
 use lib.Signed.{le_z}
-use Rattle.std.specs.List.{AllByRecursion as All}
+use Rattle.std.specs.List.{AllByRecursion}
 use Rattle.std.specs.Str.{bytes_eq}
 use Rattle.std.proofs.ByRecursion.{All-push, Decides-by_and}
 use Rattle.std.proofs.lemmas.Slice.Eq.{bytes_eq-Decides}
@@ -34,7 +34,7 @@ letter_decides b =
     (Decides-and (leb 65 b) (leb b 90) (decides_leb 65 b) (decides_leb b 90))
     (Decides-and (leb 97 b) (leb b 122) (decides_leb 97 b) (decides_leb b 122))
 
-pub letters_decide : (bs : List ℕ) → Decides (every is_letter bs) (All Letter bs)
+pub letters_decide : (bs : List ℕ) → Decides (every is_letter bs) (AllByRecursion Letter bs)
 letters_decide = Decides-by_and is_letter Letter (every is_letter) letter_decides refl (λ _ _. refl)
 
 -- spaces and nothing else
@@ -78,7 +78,7 @@ formed_decides bs =
     )
 
 -- no word of the list is this one
-pub none_decides : (xs : List (List ℕ)) (word : List ℕ) → Decides (not (is_among xs word)) (All (λ x. x ≡ word → ⊥) xs)
+pub none_decides : (xs : List (List ℕ)) (word : List ℕ) → Decides (not (is_among xs word)) (AllByRecursion (λ x. x ≡ word → ⊥) xs)
 none_decides [] word = (λ _. tt, λ _. refl)
 none_decides (x ∷ xs) word = (
   λ t.
@@ -92,18 +92,18 @@ none_decides (x ∷ xs) word = (
 )
 
 -- no symbol below n has this name
-all_parts : (P : List ℕ → Type 0) (xs : List (List ℕ)) (y : List ℕ) → All P (xs ++ y ∷ []) → All P xs × P y
+all_parts : (P : List ℕ → Type 0) (xs : List (List ℕ)) (y : List ℕ) → AllByRecursion P (xs ++ y ∷ []) → AllByRecursion P xs × P y
 all_parts P [] y a = (tt, a.0)
 all_parts P (x ∷ xs) y a = let r = all_parts P xs y a.1 in ((a.0, r.0), r.1)
 
 module _ (s : List ℕ) (P : List ℕ → Type 0) where
-  below_from : (n : ℕ) → All P (sheet_names s n) → (i : ℕ) → i < n → P (sheet_name s i)
+  below_from : (n : ℕ) → AllByRecursion P (sheet_names s n) → (i : ℕ) → i < n → P (sheet_name s i)
   below_from zero a i h = absurd (omega arith)
   below_from (suc n) a i h =
       let parts = all_parts P (sheet_names s n) (sheet_name s n) a in
       ⊎_elim (λ e. subst (λ k. P (sheet_name s k)) (sym e) parts.1) (λ ne. below_from n parts.0 i (omega arith)) (cases_eq i n)
 
-  all_below : (n : ℕ) → ((i : ℕ) → i < n → P (sheet_name s i)) → All P (sheet_names s n)
+  all_below : (n : ℕ) → ((i : ℕ) → i < n → P (sheet_name s i)) → AllByRecursion P (sheet_names s n)
   all_below zero f = tt
   all_below (suc n) f = All-push P (sheet_names s n) (sheet_name s n) (all_below n (λ i h. f i (omega arith))) (f n (omega arith))
 

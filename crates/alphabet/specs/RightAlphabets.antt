@@ -1,6 +1,6 @@
 -- What every alphabet keeps, in plain words. Assumes nothing.
 use Rattle.std.specs.Prelude.{◌≡◌, ℕ, ◌<◌, ◌≤◌, ◌⊎◌, List, [], length, neg_ℤ, ◌≤ℤ◌, ◌≢◌, slice_index_or}
-use Rattle.std.specs.List.{AllByRecursion as All}
+use Rattle.std.specs.List.{AllByRecursion}
 use Rattle.alphabet.specs.Carrying.{furthest}
 use Rattle.alphabet.specs.Names.{operator_words}
 use Rattle.alphabet.specs.declared.bounds.Bounds.{Bounds}
@@ -13,8 +13,8 @@ Letter b = ((65 ≤ b) × (b ≤ 90)) ⊎ ((97 ≤ b) × (b ≤ 122))
 pub record Names (word : List ℕ) : Type 0 where
   pub some_letters : 1 ≤ length word
   pub few_letters : length word ≤ 16
-  pub letters : All Letter word
-  pub no_operator : All (λ operator. operator ≢ word) operator_words
+  pub letters : AllByRecursion Letter word
+  pub no_operator : AllByRecursion (λ operator. operator ≢ word) operator_words
 
 -- bounds whose ends are ordered and within ± the furthest
 pub record Bounded (x : Bounds) : Type 0 where
@@ -27,6 +27,6 @@ pub record RightAlphabet (names : List (List ℕ)) (rows : List Bounds) : Type 0
   pub some_symbols : 1 ≤ length names
   pub few_symbols : length names ≤ 32
   pub matched : length rows ≡ length names
-  pub named : All Names names
-  pub bounded : All Bounded rows
+  pub named : AllByRecursion Names names
+  pub bounded : AllByRecursion Bounded rows
   pub distinct : (i j : ℕ) → i < length names → j < length names → slice_index_or names i [] ≡ slice_index_or names j [] → i ≡ j

@@ -1,6 +1,6 @@
 -- What a right sheet is and what a wrong one is refused for, in plain words. Assumes nothing.
 use Rattle.std.specs.Prelude.{◌≡◌, ℕ, ◌+◌, ◌*◌, ◌<◌, ◌≤◌, List, ◌++◌, length, take, drop, replicate, neg_ℤ, ◌≤ℤ◌, Ok, Err, Result, ◌≢◌, slice_index_or}
-use Rattle.std.specs.List.{AllByRecursion as All}
+use Rattle.std.specs.List.{AllByRecursion}
 use Rattle.alphabet.specs.Carrying.{furthest}
 use Rattle.alphabet.specs.Names.{operator_words}
 use Rattle.alphabet.specs.RightAlphabets.{Letter}
@@ -18,7 +18,7 @@ pub record Laid_out (sheet : List ℕ) : Type 0 where
 
 -- a field holds a word: one or more letters, padded on the right with spaces
 pub record Holds (field word : List ℕ) : Type 0 where
-  pub letters : All Letter word
+  pub letters : AllByRecursion Letter word
   pub some_letters : 1 ≤ length word
   pub padding : ℕ
   pub padded : field ≡ word ++ replicate padding 32
@@ -26,7 +26,7 @@ pub record Holds (field word : List ℕ) : Type 0 where
 -- a symbol's name stands in its field, is no operator word, and is not the name of an earlier symbol
 pub record RightName (sheet : List ℕ) (j : ℕ) : Type 0 where
   pub held : Holds (name_field sheet j) (sheet_name sheet j)
-  pub no_operator : All (λ word. word ≢ sheet_name sheet j) operator_words
+  pub no_operator : AllByRecursion (λ word. word ≢ sheet_name sheet j) operator_words
   pub no_repeat : (i : ℕ) → i < j → sheet_name sheet i ≢ sheet_name sheet j
 
 -- a row has its lowest rank at most its highest, both within ± the furthest, and asks two things that there are

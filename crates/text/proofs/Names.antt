@@ -1,6 +1,6 @@
 -- The names of records, record by record, and records of a query that was read.
 use Rattle.std.proofs.Common.{◌≡◌, ℕ, ◌+◌, ◌-◌, ◌<◌, ◌≤◌, Bool, true, false, cond, ◌&&◌, eqb, ltb, leb, List, [], ◌∷◌, ◌++◌, map, length, get_or, take, drop, is_some, Some, None, Option, sym, refl, ap, ◌∙◌, subst, ap₂, append-nil, add-zero, arith}
-use Rattle.std.specs.List.{AllByRecursion as All}
+use Rattle.std.specs.List.{AllByRecursion}
 use Rattle.std.proofs.ByRecursion.{All-append}
 use Rattle.std.proofs.lemmas.List.{at_drop_more, at_drop_all, get_or-append_right, get_or-drop, length-map, length-take-le, take_all, drop_all}
 use Rattle.std.proofs.lemmas.Bool.{and_parts, leb-true, both_ways, false≢true}
@@ -62,25 +62,25 @@ mutual
   unfolding keeps records
 
   -- the words of a query that was read lie in its text
-  keeps_lies : (q : Query) (r : Role) (t : ℕ) → keeps (Read t) r q ≡ true → All (Lies t) (records q)
+  keeps_lies : (q : Query) (r : Role) (t : ℕ) → keeps (Read t) r q ≡ true → AllByRecursion (Lies t) (records q)
   keeps_lies (node k n p l qs) r t e =
       let a = and_parts (record_right (Read t) r (record { kind = k; number = n; parts = count qs; place = p; length = l })) (keeps_each (Read t) (part_role k) qs) e in
       let b = and_parts (allows r k) (parts_right k (count qs) && number_right (Read t) k n p l) a.0 in
       let c = and_parts (parts_right k (count qs)) (number_right (Read t) k n p l) b.1 in
       (symbol_lies k t n p l c.1, each_lies qs (part_role k) t a.1)
 
-  each_lies : (qs : Queries) (r : Role) (t : ℕ) → keeps_each (Read t) r qs ≡ true → All (Lies t) (records_each qs)
+  each_lies : (qs : Queries) (r : Role) (t : ℕ) → keeps_each (Read t) r qs ≡ true → AllByRecursion (Lies t) (records_each qs)
   each_lies none r t e = tt
   each_lies (more q qs) r t e =
       let a = and_parts (keeps (Read t) r q) (keeps_each (Read t) r qs) e in
       All-append (Lies t) (records q) (records_each qs) (keeps_lies q r t a.0) (each_lies qs r t a.1)
 
-pub query_lies : (t : ℕ) (xs : List Node) → is_query (Read t) xs ≡ true → All (Lies t) xs
+pub query_lies : (t : ℕ) (xs : List Node) → is_query (Read t) xs ≡ true → AllByRecursion (Lies t) xs
 unfolding well
 query_lies t xs e =
     let h = is_query_sound (Read t) xs e in
     let k = and_parts (keeps (Read t) Shape (query_in xs)) _ h.1 in
-    subst (All (Lies t)) h.0 (keeps_lies (query_in xs) Shape t k.0)
+    subst (AllByRecursion (Lies t)) h.0 (keeps_lies (query_in xs) Shape t k.0)
 
 module _ (names : List (List ℕ)) (text : List ℕ) where
   unbound_parts : (t : Bool) (o : Option BindFault) → None ≡ cond t o (Some Records) → (t ≡ true) × (None ≡ o)

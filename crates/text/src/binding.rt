@@ -1,7 +1,7 @@
 //! Binding: each name of a query that was read becomes the symbol of an alphabet.
 
 ghost use Rattle.std.specs.Prelude.{◌≡◌, ◌+◌, ◌≤◌, true, length, take, is_ok, None};
-ghost use Rattle.std.specs.List.{AllByRecursion as All};
+ghost use Rattle.std.specs.List.{AllByRecursion};
 ghost use Rattle.alphabet.specs.Symbols.{names_of};
 ghost use Rattle.text.specs.Binding.{Lies, symbol_of, bound, name_fault as nameFault, unknown, bind_fault as bindFault, bound_sheet};
 ghost use Rattle.text.specs.Faults.{bind_number, bind_returned, bind_length};
@@ -97,7 +97,7 @@ fn bound_node(node: Node, text: &[u8], alphabet: &Alphabet) -> Node
 
 // The first name that is not in the alphabet.
 fn unknown_name(records: &[Node], text: &[u8], alphabet: &Alphabet) -> Option<BindFault>
-    requires { All (Lies (length text.now)) records.now }
+    requires { AllByRecursion (Lies (length text.now)) records.now }
     ensures { result ≡ unknown (names_of alphabet.now) text.now records.now }
 {
     for node in records {
@@ -111,7 +111,7 @@ fn unknown_name(records: &[Node], text: &[u8], alphabet: &Alphabet) -> Option<Bi
 
 // Writes the symbol of each name into its record, in the first records of the sheet.
 fn bind_names(sheet: &mut [Node], count: usize, text: &[u8], alphabet: &Alphabet)
-    requires { All (Lies (length text.now)) (take count sheet.old) }
+    requires { AllByRecursion (Lies (length text.now)) (take count sheet.old) }
     ensures { sheet.new ≡ bound_sheet (names_of alphabet.now) text.now count sheet.old }
 {
     let end = count.min(sheet.len());
@@ -123,7 +123,7 @@ fn bind_names(sheet: &mut [Node], count: usize, text: &[u8], alphabet: &Alphabet
 // Whether the records are a query that was read from such a text. Its names then lie in the text.
 fn was_read(records: &[Node], text: &[u8]) -> bool
     ensures answer { result ≡ isQuery (Read (length text.now)) records.now }
-    ensures lie { result ≡ true → All (Lies (length text.now)) records.now }
+    ensures lie { result ≡ true → AllByRecursion (Lies (length text.now)) records.now }
 {
     is_query(records, Stage::Read(text.len()))
 }
@@ -131,7 +131,7 @@ fn was_read(records: &[Node], text: &[u8]) -> bool
 // Why the first records of the sheet are not bound, where they are not. Where they are, their names lie in the text.
 fn bind_fault(sheet: &[Node], count: usize, text: &[u8], alphabet: &Alphabet) -> Option<BindFault>
     ensures fault { result ≡ bindFault (names_of alphabet.now) text.now count sheet.now }
-    ensures lie { result ≡ None → All (Lies (length text.now)) (take count sheet.now) }
+    ensures lie { result ≡ None → AllByRecursion (Lies (length text.now)) (take count sheet.now) }
 {
     if is_short(sheet) {
         return Some(BindFault::Sheet);

@@ -7,11 +7,11 @@ mod alternatives;
 #[cfg(test)]
 mod chains;
 #[cfg(test)]
+mod each_rule;
+#[cfg(test)]
 mod limits;
 #[cfg(test)]
 mod refusals;
-#[cfg(test)]
-mod rules;
 #[cfg(test)]
 mod sheet;
 #[cfg(test)]
