@@ -5,10 +5,8 @@ use Rattle.query.specs.Stands.{at as query-at}
 use Rattle.shape.specs.Fits.{Rule}
 use Rattle.steps.specs.Meaning.{steps_of}
 use Rattle.steps.proofs.Length.{steps_few}
-use Rattle.ends.specs.declared.Ends.{Ends}
 use Rattle.ends.specs.Member.{member}
-use Rattle.wholes.specs.declared.view.View.{View}
-use Rattle.wholes.specs.declared.view.View.TheVariants.{From, Own}
+use Rattle.wholes.specs.declared.view.View.TheVariants.{From}
 use Rattle.wholes.specs.declared.view.Many.{Many}
 use Rattle.wholes.specs.Shows.{Shows, Starts, repeated, counting}
 use Rattle.wholes.specs.Turns.{at}
@@ -468,12 +466,8 @@ window-shifted-requires t c =
     let h = c.requires.high in
     let begins : Starts c.match-view.begins (rule (steps_of c.args.steps.now) c.args.records.now c.args.i) c.args.view c.args.len c.args.to =
     elim c.match-view.branch [
-      | window-in-From w ↦
-          subst (λ (v : View). Starts c.match-view.begins (rule (steps_of c.args.steps.now) c.args.records.now c.args.i) v c.args.len c.args.to) (sym w.in-From.is)
-          (subst (λ (e : Ends). Starts e (rule (steps_of c.args.steps.now) c.args.records.now c.args.i) (From w.in-From.s) c.args.len c.args.to) (sym w.begins-is) w.starts-begins.ensures)
-      | window-in-Own w ↦
-          subst (λ (v : View). Starts c.match-view.begins (rule (steps_of c.args.steps.now) c.args.records.now c.args.i) v c.args.len c.args.to) (sym w.in-Own.is)
-          (subst (λ (e : Ends). Starts e (rule (steps_of c.args.steps.now) c.args.records.now c.args.i) Own c.args.len c.args.to) (sym w.begins-is) w.own_starts-begins.ensures)
+      | window-in-From w ↦ rw (w.in-From.is, w.begins-is) (search rules)
+      | window-in-Own w ↦ rw (w.in-Own.is, w.begins-is) (search rules)
     ] in
     record { small = omega arith; within = λ a u. ((begins a).0 u).1 }
 
@@ -481,11 +475,7 @@ pub window-returns : goal.window-returns
 window-returns t c =
     let begins : Starts c.match-view.begins (rule (steps_of c.args.steps.now) c.args.records.now c.args.i) c.args.view c.args.len c.args.to =
     elim c.match-view.branch [
-      | window-in-From w ↦
-          subst (λ (v : View). Starts c.match-view.begins (rule (steps_of c.args.steps.now) c.args.records.now c.args.i) v c.args.len c.args.to) (sym w.in-From.is)
-          (subst (λ (e : Ends). Starts e (rule (steps_of c.args.steps.now) c.args.records.now c.args.i) (From w.in-From.s) c.args.len c.args.to) (sym w.begins-is) w.starts-begins.ensures)
-      | window-in-Own w ↦
-          subst (λ (v : View). Starts c.match-view.begins (rule (steps_of c.args.steps.now) c.args.records.now c.args.i) v c.args.len c.args.to) (sym w.in-Own.is)
-          (subst (λ (e : Ends). Starts e (rule (steps_of c.args.steps.now) c.args.records.now c.args.i) Own c.args.len c.args.to) (sym w.begins-is) w.own_starts-begins.ensures)
+      | window-in-From w ↦ rw (w.in-From.is, w.begins-is) (search rules)
+      | window-in-Own w ↦ rw (w.in-Own.is, w.begins-is) (search rules)
     ] in
     c.shifted.ensures (rule (steps_of c.args.steps.now) c.args.records.now c.args.i) c.args.view (length (steps_of c.args.steps.now)) c.requires.high begins
