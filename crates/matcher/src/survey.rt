@@ -9,7 +9,7 @@ ghost use Rattle.steps.specs.Meaning.{steps_of};
 ghost use Rattle.tables.specs.Holds.{holds, Held};
 ghost use Rattle.wholes.specs.declared.view.View.TheVariants.{From};
 ghost use Rattle.wholes.specs.Shows.{Shows};
-ghost use Rattle.matcher.specs.Answers.{Puts, in_front, room_for, list_out};
+ghost use Rattle.matcher.specs.Answers.{Listed, Puts, in_front, room_for, list_out};
 ghost use Rattle.walk.specs.Walk.{IsQuery};
 
 use crate::faults::ListFault;
@@ -111,6 +111,7 @@ pub(crate) fn list_records(
     out: &mut [Stretch],
 ) -> Result<usize, ListFault>
     requires { IsQuery records.now }
+    ensures listed { Listed (steps_of steps.now) (query_in records.now) out.old out.new result }
     ensures answer { result ≡ room_for (length (listing (steps_of steps.now) (query_in records.now))) (length out.old) }
     ensures out { out.new ≡ list_out result (listing (steps_of steps.now) (query_in records.now)) out.old }
 {

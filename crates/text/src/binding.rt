@@ -3,7 +3,7 @@
 ghost use Rattle.std.specs.Prelude.{◌≡◌, ◌+◌, ◌≤◌, true, length, take, is_ok, None};
 ghost use Rattle.std.specs.List.{AllByRecursion};
 ghost use Rattle.alphabet.specs.Symbols.{names_of};
-ghost use Rattle.text.specs.Binding.{Lies, symbol_of, bound, name_fault as nameFault, unknown, bind_fault as bindFault, bound_sheet};
+ghost use Rattle.text.specs.Binding.{Lies, symbol_of, bound, name_fault as nameFault, unknown, unbound, bind_fault as bindFault, bound_sheet};
 ghost use Rattle.text.specs.Faults.{bind_number, bind_returned, bind_length};
 ghost use Rattle.text.specs.Bound.{bind_answer, bind_sheet as bindSheet};
 ghost use Rattle.query.specs.declared.node.Stage.TheVariants.{Read, Bound};
@@ -128,19 +128,26 @@ fn was_read(records: &[Node], text: &[u8]) -> bool
     is_query(records, Stage::Read(text.len()))
 }
 
+// Why the records are not bound, where they are not. Where they are, their names lie in the text.
+fn bind_fault(records: &[Node], text: &[u8], alphabet: &Alphabet) -> Option<BindFault>
+    ensures fault { result ≡ unbound (names_of alphabet.now) text.now records.now }
+    ensures lie { result ≡ None → AllByRecursion (Lies (length text.now)) records.now }
+{
+    if !was_read(records, text) {
+        return Some(BindFault::Records);
+    }
+    unknown_name(records, text, alphabet)
+}
+
 // Why the first records of the sheet are not bound, where they are not. Where they are, their names lie in the text.
-fn bind_fault(sheet: &[Node], count: usize, text: &[u8], alphabet: &Alphabet) -> Option<BindFault>
+fn sheet_fault(sheet: &[Node], count: usize, text: &[u8], alphabet: &Alphabet) -> Option<BindFault>
     ensures fault { result ≡ bindFault (names_of alphabet.now) text.now count sheet.now }
     ensures lie { result ≡ None → AllByRecursion (Lies (length text.now)) (take count sheet.now) }
 {
     if is_short(sheet) {
         return Some(BindFault::Sheet);
     }
-    let records = first_records(sheet, count);
-    if !was_read(records, text) {
-        return Some(BindFault::Records);
-    }
-    unknown_name(records, text, alphabet)
+    bind_fault(first_records(sheet, count), text, alphabet)
 }
 
 // Binds the query in the sheet, or gives its shape back.
@@ -153,7 +160,7 @@ fn bind_sheet(
     ensures answer { result ≡ bind_answer read (bindFault (names_of alphabet.now) text.now read.records sheet.old) }
     ensures sheet { sheet.new ≡ bindSheet (bindFault (names_of alphabet.now) text.now read.records sheet.old) (names_of alphabet.now) text.now read.records sheet.old }
 {
-    if let Some(fault) = bind_fault(sheet, read.records, text, alphabet) {
+    if let Some(fault) = sheet_fault(sheet, read.records, text, alphabet) {
         return Err(Unbound { read, fault });
     }
     bind_names(sheet, read.records, text, alphabet);

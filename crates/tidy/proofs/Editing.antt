@@ -14,14 +14,9 @@ use Rattle.rules.proofs.Cursor.{whole_of, here_after, here_inside, part_of_row, 
 use Rattle.rules.proofs.Walking.{none_long, row_long}
 use Rattle.tidy.specs.declared.change.Change.TheVariants.{Lift, Clear, Unnest, Join}
 use Rattle.tidy.specs.Changes.{Joins}
-use Rattle.tidy.specs.Edits.{moved_up, cut_out, replaced, Makeable, Made}
+use Rattle.tidy.specs.Edits.{cut_out, replaced, Makeable, Made}
 
 -- Cutting, record by record
-
-pub moved_up_at : (ns : List Node) (k gap : ℕ) → moved_up ns k gap ≡ at ns (k + gap)
-moved_up_at ns k gap =
-    cond_both (ltb k (length ns - gap)) (at ns (k + gap)) blank (λ x. x ≡ at ns (k + gap)) (λ e. refl)
-    (λ e. let past = ltb-false k (length ns - gap) e in sym (get_or_past ns (k + gap) blank (omega arith)))
 
 pub cut_length : (ns : List Node) (from to : ℕ) → from ≤ to → to ≤ length ns → length (cut_out ns from to) ≡ length ns
 cut_length ns from to l u =

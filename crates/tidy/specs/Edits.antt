@@ -1,20 +1,16 @@
 -- What the sheet holds after a change. Assumes nothing.
-use Rattle.std.specs.Prelude.{◌≡◌, ℕ, ◌+◌, ◌-◌, ◌<◌, ◌≤◌, true, false, cond, List, ◌++◌, length, take, drop, replicate, Some, None, Option, nat_lt}
+use Rattle.std.specs.Prelude.{◌≡◌, ℕ, ◌+◌, ◌-◌, ◌<◌, ◌≤◌, true, false, List, ◌++◌, length, take, drop, replicate, Some, None, Option}
 use Rattle.query.specs.declared.node.Node.{Node}
 use Rattle.query.specs.declared.node.Role.{Role}
 use Rattle.query.specs.declared.node.Stage.{Stage}
 use Rattle.query.specs.Tree.{Query, records, levels}
 use Rattle.query.specs.Rules.{keeps}
-use Rattle.query.specs.Stands.{blank, at}
+use Rattle.query.specs.Stands.{blank}
 use Rattle.rules.specs.Applies.{applies}
 use Rattle.rules.specs.Places.{Here}
 use Rattle.rules.specs.Shorter.{Shorter}
 use Rattle.tidy.specs.declared.change.Change.{Change}
 use Rattle.tidy.specs.Changes.{Makes}
-
--- the record so many places behind index k, or a blank one past the end
-abbrev pub moved_up : List Node → ℕ → ℕ → Node
-moved_up ns k gap = cond (nat_lt k (length ns - gap)) (at ns (k + gap)) blank
 
 -- the records from one index up to another go, those behind them move up, and blanks fill the end
 abbrev pub cut_out : List Node → ℕ → ℕ → List Node

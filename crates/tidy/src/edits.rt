@@ -4,7 +4,7 @@ ghost use Rattle.std.specs.Prelude.{◌≡◌, ◌+◌, ◌-◌, ◌<◌, ◌≤
 ghost use Rattle.query.specs.Stands.{at as recordAt};
 ghost use Rattle.rules.specs.Places.{Stands};
 ghost use Rattle.tidy.specs.declared.change.Change.TheVariants.{Lift, Clear, Unnest, Join};
-ghost use Rattle.tidy.specs.Edits.{moved_up, cut_out, Makeable, Made};
+ghost use Rattle.tidy.specs.Edits.{cut_out, Makeable, Made};
 
 use crate::change::Change;
 use crate::walk::part_end;
@@ -12,9 +12,8 @@ use query::{Kind, Node};
 
 // The record so many places behind index k, or a blank one past the end.
 fn behind(sheet: &[Node], k: usize, gap: usize) -> Node
-    requires here { k < length sheet.now }
     requires inside { gap ≤ length sheet.now }
-    ensures { result ≡ moved_up sheet.now k gap }
+    ensures { result ≡ recordAt sheet.now (k + gap) }
 {
     if k < sheet.len() - gap {
         sheet[k + gap]

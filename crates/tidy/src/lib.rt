@@ -73,7 +73,7 @@ fn refusal(count: usize, sheet: &[Node]) -> Option<TidyFault>
     None
 }
 
-// Tidies the query in the first `count` records of the sheet, and tells how many records it has then.
+// Tidies the query in the first `count` records of the sheet, which is not refused, and tells how many records it has then.
 fn tidy_first(count: usize, sheet: &mut [Node]) -> usize
     requires ready { refused count sheet.old ≡ None }
     ensures { Answers count sheet.old sheet.new (Ok result) }
@@ -83,19 +83,25 @@ fn tidy_first(count: usize, sheet: &mut [Node]) -> usize
     settle(sheet)
 }
 
+// Tidies the query in the first `count` records of the sheet, and tells how many records it has then, or why it is not tidied.
+fn tidy_records(count: usize, sheet: &mut [Node]) -> Result<usize, TidyFault>
+    ensures { Answers count sheet.old sheet.new result }
+{
+    if let Some(fault) = refusal(count, sheet) {
+        return Err(fault);
+    }
+    Ok(tidy_first(count, sheet))
+}
+
 /// Tidies the bound query in the sheet, and tells how many records it has then, which the shape follows. The records behind it are
 /// blanked. The new query fits what the old one fits, on every line and seen from everywhere, and no rule applies to it.
 pub fn tidy(shape: &mut BoundShape, sheet: &mut [Node]) -> Result<usize, TidyFault>
     ensures answer { Answers shape.old.records sheet.old sheet.new result }
     ensures shape { shape.new.records ≡ unwrap_or (result_ok result) shape.old.records }
 {
-    let old = shape.count();
-    if let Some(fault) = refusal(old, sheet) {
-        return Err(fault);
-    }
-    let new = tidy_first(old, sheet);
-    shape.shorten(new);
-    Ok(new)
+    let count = tidy_records(shape.count(), sheet)?;
+    shape.shorten(count);
+    Ok(count)
 }
 
 #[cfg(test)]

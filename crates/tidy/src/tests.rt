@@ -48,14 +48,6 @@ fn filled(records: &[Node]) -> [Node; 70] {
     sheet
 }
 
-// Tidies the first `count` records of the sheet, or tells why not.
-fn tidy_records(count: usize, sheet: &mut [Node]) -> Result<usize, TidyFault> {
-    if let Some(fault) = refusal(count, sheet) {
-        return Err(fault);
-    }
-    Ok(tidy_first(count, sheet))
-}
-
 // Whether these records become those, and blanks behind them.
 fn becomes(records: &[Node], expected: &[Node]) -> bool {
     if records.len() > 64 {
