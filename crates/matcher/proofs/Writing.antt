@@ -1,5 +1,5 @@
 -- The stretches of a table, written into a buffer one after another.
-use Rattle.std.proofs.Common.{◌≡◌, ℕ, zero, suc, ◌+◌, ◌-◌, ◌<◌, ◌≤◌, min, Bool, true, false, cond, List, [], ◌∷◌, ◌++◌, length, get_or, take, drop, set, Decides, sym, refl, ap, ◌∙◌, subst, ap₂, append_assoc, append-nil, arith}
+use Rattle.std.proofs.Common.{◌≡◌, ℕ, zero, suc, ◌+◌, ◌-◌, ◌<◌, ◌≤◌, min, Bool, true, false, cond, List, [], ◌∷◌, ◌++◌, length, get_or, drop, set, Decides, sym, refl, ap, ◌∙◌, subst, ap₂, append_assoc, append-nil, arith}
 use Rattle.std.proofs.lemmas.List.{length-append, length-drop, drop_more, set_at}
 use Rattle.std.proofs.lemmas.Bool.Decides.{same_from_decides}
 use Rattle.shape.specs.declared.stretch.Stretch.{Stretch}
@@ -95,6 +95,23 @@ puts_one before now done place at y e l p xs base x h =
     ∙ set_at ys (get_or base (length ys) y) (drop (length ys + 1) base) y (length ys) refl
     ∙ sym (append_assoc ys (y ∷ []) (drop (length ys + 1) base))
     ∙ ap₂ (λ (zs : List Stretch) (i : ℕ). zs ++ drop i base) assoc (sym longer)
+
+-- one more stretch of a row is written, and c is the next end
+pub row_goes_on : (test : ℕ → ℕ → Bool) (a n b c place next : ℕ) (before now : List Stretch) → a < b → b ≤ n → test a b ≡ true →
+    next ≡ place + length (row_before test a n b) → next < length now → Puts before now (row_before test a n b) place → Next (test a) (b + 1) c →
+    Puts before (set now next (stretch a b)) (row_before test a n c) place
+    × (next + 1 ≡ place + length (row_before test a n c)) × (a < c) × (c ≤ 256) × (c < 256 → test a c ≡ true)
+row_goes_on test a n b c place next before now l u t e m p h =
+    let s = row_next test a n b c l u t h in
+    let x = ap length s in
+    let y = length-append (row_before test a n b) (stretch a b ∷ []) in
+    let above = h.above in (
+      subst (λ (k : List Stretch). Puts before (set now next (stretch a b)) k place) s (puts_one before now (row_before test a n b) place next (stretch a b) e m p),
+      omega arith,
+      omega arith,
+      h.below,
+      h.found,
+    )
 
 pub puts_then : (before mid after d e : List Stretch) (place at : ℕ) → at ≡ place + length d → Puts before mid d place → Puts mid after e at →
     Puts before after (d ++ e) place

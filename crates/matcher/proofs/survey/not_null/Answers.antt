@@ -1,4 +1,4 @@
-use Rattle.std.proofs.Common.{ℕ, length, arith}
+use Rattle.std.proofs.Common.{length, arith}
 use Rattle.query.specs.Stands.{query_in}
 use Rattle.shape.specs.Fits.{fits}
 use Rattle.shape.specs.Listing.{listing}

@@ -1,7 +1,6 @@
-use Rattle.std.proofs.Common.{◌≡◌, ℕ, ◌+◌, ◌-◌, ◌<◌, ◌≤◌, length, refl, subst, arith, rules}
+use Rattle.std.proofs.Common.{◌≡◌, ℕ, ◌+◌, ◌-◌, ◌≤◌, length, subst, arith, rules}
 use Rattle.query.specs.declared.node.Role.TheVariants.{Shape}
 use Rattle.query.specs.Stands.{query_in}
-use Rattle.shape.specs.Fits.{fits}
 use Rattle.steps.specs.Meaning.{steps_of}
 use Rattle.wholes.specs.declared.view.View.TheVariants.{From}
 use Rattle.wholes.specs.Shows.{Shows}

@@ -1,4 +1,4 @@
-use Rattle.std.proofs.Common.{◌≡◌, ℕ, ◌+◌, ◌-◌, length}
+use Rattle.std.proofs.Common.{◌≡◌, length}
 use Rattle.shape.specs.Ranges.{rows_from}
 use Rattle.tables.specs.Holds.{holds}
 use Rattle.matcher.specs.Answers.{Puts}

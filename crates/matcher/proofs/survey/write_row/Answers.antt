@@ -1,10 +1,8 @@
-use Rattle.std.proofs.Common.{◌≡◌, ℕ, ◌+◌, ◌<◌, ◌≤◌, List, [], ◌∷◌, ◌++◌, length, set, sym, refl, ap, ◌∙◌, subst, arith, rules}
-use Rattle.std.proofs.lemmas.List.{length-append}
+use Rattle.std.proofs.Common.{◌≡◌, ◌+◌, ◌<◌, List, length, ap, ◌∙◌, subst, arith, rules}
 use Rattle.shape.specs.declared.stretch.Stretch.{Stretch}
-use Rattle.shape.specs.Ranges.{stretch}
 use Rattle.tables.specs.Holds.{holds}
 use Rattle.matcher.specs.Answers.{Puts}
-use Rattle.matcher.proofs.Writing.{row_before, row_start, row_next, row_end, row_room, puts_none, puts_one}
+use Rattle.matcher.proofs.Writing.{row_start, row_end, row_room, row_goes_on, puts_none}
 use Rattle.matcher.proofs.survey.write_row.Goals as goal
 
 pub loop-b-init : goal.loop-b-init
@@ -54,19 +52,9 @@ loop-b-preserved c =
     let e = c.loop-b.invariant.1 in
     let k : length c.loop-b.out ≡ length c.args.out.now = c.loop-b.auto.out in
     let q = c.requires.room in
-    let h = c.next_in-b-in-loop-b.ensures in
-    let above = h.above in
-    let s = row_next (holds c.args.table.now) c.args.a c.args.n c.loop-b.b c.next_in-b-in-loop-b.result c.loop-b.invariant.2 c.loop-b-test.true t h in
-    let x = ap length s in
-    let y = length-append (row_before (holds c.args.table.now) c.args.a c.args.n c.loop-b.b) (stretch c.args.a c.loop-b.b ∷ []) in (
-      subst (λ (l : List Stretch). Puts c.args.out.now (set c.loop-b.out c.loop-b.next (stretch c.args.a c.loop-b.b)) l c.args.place) s
-          (puts_one c.args.out.now c.loop-b.out (row_before (holds c.args.table.now) c.args.a c.args.n c.loop-b.b) c.args.place c.loop-b.next (stretch c.args.a c.loop-b.b)
-          c.loop-b.invariant.1 (omega arith) c.loop-b.invariant.0),
-      omega arith,
-      (let z = c.loop-b.invariant.2 in omega arith),
-      h.below,
-      h.found,
-    )
+    let f : c.loop-b.next < length c.loop-b.out = omega arith in
+    row_goes_on (holds c.args.table.now) c.args.a c.args.n c.loop-b.b _ c.args.place c.loop-b.next c.args.out.now c.loop-b.out
+    c.loop-b.invariant.2 c.loop-b-test.true t e f c.loop-b.invariant.0 (search rules)
 
 pub returns : goal.returns
 returns c =

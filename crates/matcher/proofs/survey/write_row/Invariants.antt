@@ -1,4 +1,4 @@
-use Rattle.std.proofs.Common.{◌≡◌, ℕ, ◌+◌, ◌-◌, ◌<◌, ◌≤◌, true, length}
+use Rattle.std.proofs.Common.{◌≡◌, ◌+◌, ◌-◌, ◌<◌, ◌≤◌, true, length}
 use Rattle.tables.specs.Holds.{holds}
 use Rattle.matcher.specs.Answers.{Puts}
 use Rattle.matcher.proofs.Writing.{row_before}
