@@ -4,7 +4,7 @@
 usage: python3 tools/respell.py [FOLDER]
 
 Names of definitions and lemmas with a dash are written in snake case, and facts and records in camel case: `next-at` is `next_at`,
-`Kept-own` is `KeptOwn`. In clauses the other names that only stood for a dash (`next-at as nextAt`) go. A name keeps its dash where the
+`Kept-own` and `Laid_out` are `KeptOwn` and `LaidOut`. In clauses the other names that only stood for a dash (`next-at as nextAt`) go. A name keeps its dash where the
 new name is taken already, where the library has the old one, and where a lemma is named after a fact (`All-append`).
 Functions of src/, exported names, texts, goals and files keep their names. Run it once.
 """
@@ -56,9 +56,17 @@ for p in antt:
             fields.add(name)
         if "record" in words:
             inside = indent
-        if "-" in name and not name.startswith("-"):
+        if ("-" in name and not name.startswith("-")) or re.match(r"[A-Z][^_]*_", name):
             of_specs = "/specs/" in p
             declared[name] = declared.get(name, False) or of_specs or bool({"abbrev", "unfoldable", "record", "data"} & set(words))
+
+# other names that an import gives
+for p in antt:
+    for line in text(p).split("\n"):
+        if line.startswith("use "):
+            for name in re.findall(r" as ([^\s,;{}]+)", line):
+                if "-" in name:
+                    declared[name] = True
 
 used = set()
 goals = set()
@@ -87,6 +95,7 @@ for p in antt + code:
 def respelt(name):
     parts = name.split("-")
     if name[0].isupper():
+        parts = re.split("[-_]", name)
         return "".join(p[:1].upper() + p[1:] for p in parts)
     return "_".join(parts)
 

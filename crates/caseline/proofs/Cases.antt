@@ -1,5 +1,5 @@
 -- The table of shapes on the case line, computed.
-use Rattle.std.proofs.Common.{◌≡◌, ℕ, ◌⊎◌, List, [], ◌∷◌, map, sym, refl, ap, ◌∙◌, inl, inr}
+use Rattle.std.proofs.Common.{◌≡◌, ℕ, List, [], ◌∷◌, map, sym, refl, ap, ◌∙◌, inl, inr}
 use Rattle.word.specs.Words.{has}
 use Rattle.shape.specs.declared.stretch.Stretch.{Stretch}
 use Rattle.shape.specs.Ranges.{some_from, row_from, rows_from}

@@ -1,7 +1,7 @@
 -- Eight shapes on the case line, each with the stretches that it fits.
-use Rattle.std.specs.Prelude.{◌≡◌, ℕ, suc, Bool, cond, ◌⊎◌, List, [], ◌∷◌, length}
+use Rattle.std.specs.Prelude.{◌≡◌, ℕ, suc, cond, ◌⊎◌, List, [], ◌∷◌, length}
 use Rattle.query.specs.declared.node.Kind.{Kind}
-use Rattle.query.specs.declared.node.Kind.TheVariants.{Symbol, Any, Concat, Exact, Atleast, Atmost, In, Precisely, Noless, Nomore, And, Or, Inorder}
+use Rattle.query.specs.declared.node.Kind.TheVariants.{Symbol, Any, Concat, Exact, Atleast, Atmost, In, Noless, Nomore, And, Inorder}
 use Rattle.query.specs.Tree.{Query, node, Queries, none, more}
 use Rattle.shape.specs.declared.stretch.Stretch.{Stretch}
 use Rattle.shape.specs.Ranges.{stretch}

@@ -1,7 +1,7 @@
 -- The records of a query that was read, once bound, are a bound query.
-use Rattle.std.proofs.Common.{◌≡◌, ℕ, suc, ◌+◌, ◌-◌, ◌<◌, ◌≤◌, min, max, Bool, true, false, cond, ◌&&◌, eqb, ltb, leb, List, [], ◌∷◌, ◌++◌, map, length, get_or, take, drop, is_ok, Some, None, Option, sym, refl, ap, ◌∙◌, subst, ap₂, inl, inr, append-nil, arith}
+use Rattle.std.proofs.Common.{◌≡◌, ℕ, suc, ◌<◌, max, Bool, true, false, cond, ◌&&◌, ltb, leb, List, [], ◌∷◌, ◌++◌, map, length, get_or, take, drop, is_ok, Some, None, Option, sym, refl, ap, ◌∙◌, ap₂, inl, inr, append-nil, arith}
 use Rattle.std.proofs.lemmas.List.{length-append, length-map, length-take-le, take_all, drop_all, take_at, map-append}
-use Rattle.std.proofs.lemmas.Bool.{cases_lt, cond-true, cond-false, and_parts, and_from, ltb-true, lt-ltb, le-ltb, leb-true, le-leb, false≢true}
+use Rattle.std.proofs.lemmas.Bool.{cases_lt, cond-false, and_parts, and_from, lt-ltb, le-ltb, false≢true}
 use Rattle.alphabet.specs.Names.{index_of, name_at}
 use Rattle.alphabet.proofs.Distinct.{found_named}
 use Rattle.query.specs.declared.node.Kind.{Kind}
@@ -17,7 +17,6 @@ use Rattle.query.proofs.Standing.{is_query_sound, is_query_found}
 use Rattle.grammar.specs.Spelling.{is_symbol}
 use Rattle.grammar.proofs.Forward.{none_some}
 use Rattle.text.specs.declared.fault.BindFault.{BindFault}
-use Rattle.text.specs.declared.fault.BindFault.TheVariants.{Sheet, Records, Name}
 use Rattle.text.specs.Binding.{symbol_of, numbered_by, bound, missing, name_fault, or_else, unknown, bind_fault, bound_sheet}
 use Rattle.text.specs.Bound.{bind_answer, bind_sheet}
 use Rattle.text.specs.declared.shape.ReadShape.{ReadShape}

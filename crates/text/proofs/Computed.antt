@@ -1,6 +1,6 @@
 -- Texts whose reading and binding is computed.
-use Rattle.std.proofs.Common.{◌≡◌, ℕ, ◌≤◌, Bool, true, false, ◌&&◌, List, ◌++◌, map, length, take, replicate, Some, None, Ok, Err, Option, Result, sym, refl, ap, ◌∙◌, subst, ap₂, arith}
-use Rattle.std.proofs.lemmas.List.{take_at, length-replicate}
+use Rattle.std.proofs.Common.{◌≡◌, ℕ, Bool, true, false, ◌&&◌, List, map, length, take, replicate, Some, None, Ok, Err, Option, Result, sym, refl, ap, ◌∙◌, subst}
+use Rattle.std.proofs.lemmas.List.{take_at}
 use Rattle.std.proofs.lemmas.Bool.{and_parts, false≢true}
 use Rattle.query.specs.declared.node.Node.{Node}
 use Rattle.query.specs.Tree.{Query, records, alike}
@@ -13,7 +13,7 @@ use Rattle.text.specs.Binding.{bound, unknown}
 use Rattle.text.specs.Promise.{StandsFor, Accepted}
 use Rattle.text.specs.Reading.{padded}
 use Rattle.text.specs.Written.{ReadsBack}
-use Rattle.text.proofs.Promised.{found, RightFor, found_right}
+use Rattle.text.proofs.Promised.{RightFor, found_right}
 
 abbrev is_none : Option BindFault → Bool
 is_none None = true

@@ -1,5 +1,5 @@
 -- What reading answers is what it promises, and nothing else is.
-use Rattle.std.proofs.Common.{◌≡◌, ℕ, ◌+◌, ◌<◌, ◌≤◌, Bool, true, false, cond, ltb, ◌↔◌, List, [], ◌∷◌, ◌++◌, length, is_ok, Some, None, Ok, Err, Option, Result, sym, refl, ap, ◌∙◌, subst, ap₂, inl, inr, arith}
+use Rattle.std.proofs.Common.{◌≡◌, ℕ, ◌<◌, ◌≤◌, Bool, true, false, cond, ◌↔◌, List, [], length, is_ok, Some, None, Ok, Err, Option, Result, sym, refl, ap, ◌∙◌, subst, ap₂, inl, inr, arith}
 use Rattle.std.proofs.lemmas.Bool.{cases_lt, cond-true, cond-false, lt-ltb, le-ltb, false≢true, both_ways}
 use Rattle.query.specs.declared.node.Node.{Node}
 use Rattle.query.specs.Tree.{Query, records}
@@ -8,9 +8,8 @@ use Rattle.words.proofs.Within.{Between, stream_in}
 use Rattle.grammar.specs.declared.types.GrammarFault.{GrammarFault}
 use Rattle.grammar.specs.declared.types.GrammarFault.TheVariants.{Unexpected, Ended, Number, Limit}
 use Rattle.grammar.specs.declared.types.Point.TheVariants.{Inside}
-use Rattle.grammar.specs.Spelling.{Placed, said, Follows}
 use Rattle.grammar.specs.Machine.{State, state, step, and_then, run, start, done}
-use Rattle.grammar.specs.Reading.{Right, Why}
+use Rattle.grammar.specs.Reading.{Why}
 use Rattle.grammar.proofs.Runs.{ok_err, right, right_runs, why, because_stuck, because_number, because_limit, done_follows, follows_done}
 use Rattle.grammar.proofs.Trees.{Within, accepts, accepted}
 use Rattle.text.specs.declared.shape.ReadShape.{ReadShape}
@@ -18,7 +17,7 @@ use Rattle.parser.specs.declared.fault.ReadFault.{ReadFault}
 use Rattle.parser.specs.declared.fault.ReadFault.TheVariants.{Sheet, Long, Word, Grammar}
 use Rattle.parser.specs.Parsing.{go_on, read_words, parsed}
 use Rattle.text.specs.Reading.{padded, reading, answered, refused_sheet, left_in}
-use Rattle.text.specs.Promise.{placed, ending, words_of, bad_byte, StandsFor, Readable, Accepted, Blanked, Whole, Refused, Means}
+use Rattle.text.specs.Promise.{placed, ending, words_of, bad_byte, StandsFor, Readable, Blanked, Whole, Refused, Means}
 
 -- the end of a text behind its words
 abbrev closed : Result State GrammarFault → Option ℕ → ℕ → Result State ReadFault

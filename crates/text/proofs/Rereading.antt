@@ -1,6 +1,5 @@
 -- The text of a bound query, read and bound again, gives an equal query.
-use Rattle.std.proofs.Common.{◌≡◌, ℕ, zero, suc, ◌+◌, ◌-◌, ◌*◌, ◌/◌, ◌%◌, ◌<◌, ◌≤◌, max, Bool, true, false, cond, not, ◌&&◌, ◌||◌, eqb, ltb, leb, List, [], ◌∷◌, ◌++◌, length, get_or, take, drop, Some, None, Option, sym, refl, ap, ◌∙◌, subst, ap₂, inl, inr, append_assoc, append-nil, add_assoc, arith}
-use Rattle.std.specs.Char.{is_ascii_alphabetic}
+use Rattle.std.proofs.Common.{◌≡◌, ℕ, zero, suc, ◌+◌, ◌/◌, ◌%◌, ◌<◌, ◌≤◌, max, Bool, true, false, cond, not, ◌&&◌, ◌||◌, ltb, leb, List, [], ◌∷◌, ◌++◌, length, get_or, take, drop, Some, None, sym, refl, ap, ◌∙◌, subst, ap₂, inl, inr, append_assoc, append-nil, arith}
 use Rattle.std.specs.Str.{bytes_eq}
 use Rattle.std.proofs.lemmas.Slice.Eq.{bytes_eq-Decides}
 use Rattle.std.proofs.lemmas.List.{length-append, take_at, drop_at}
@@ -19,8 +18,8 @@ use Rattle.query.specs.declared.node.Role.TheVariants.{Shape}
 use Rattle.query.specs.Rules.{allows, parts_right, part_role, number_right, record_right, keeps, keeps_each, well}
 use Rattle.query.specs.Stands.{query_in}
 use Rattle.query.proofs.Standing.{is_query_found}
-use Rattle.words.specs.Words.{Stream, ends, bad, word, stream, name, number, opens, closes}
-use Rattle.words.proofs.Lexing.{parted, letters, IsDigit, Digits, name_front, number_front}
+use Rattle.words.specs.Words.{Stream, word, stream, opens}
+use Rattle.words.proofs.Lexing.{parted, letters, Digits, name_front, number_front}
 use Rattle.grammar.specs.Names.{operator_word, operators, named_among, kind_named, natural, extra_zero}
 use Rattle.grammar.specs.Spelling.{Said, lparen, rparen, counts, names, said, is_symbol, takes_number, number_words, spell, spell_each}
 use Rattle.grammar.specs.Reading.{plain}
@@ -29,7 +28,7 @@ use Rattle.text.specs.Promise.{placed, ending}
 use Rattle.text.proofs.Bound.{none_or, bind_tree, bind_each, bind_records, bound_well}
 use Rattle.writer.proofs.Pens.{symbol_none}
 use Rattle.text.specs.Written.{ReadsBack}
-use Rattle.writer.specs.Writing.{numeral, number_text, head_text, record_text, text_of, parts_text}
+use Rattle.writer.specs.Writing.{numeral, number_text, head_text, text_of, parts_text}
 
 word_letters : (k : Kind) → letters (operator_word k) ≡ true
 word_letters Symbol = refl

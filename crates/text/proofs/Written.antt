@@ -1,5 +1,5 @@
 -- The records of a bound query are written as its text, or refused.
-use Rattle.std.proofs.Common.{◌≡◌, ℕ, ◌+◌, ◌-◌, ◌≤◌, min, Bool, true, false, cond, ◌&&◌, ltb, leb, List, [], length, take, Some, None, Ok, Err, Option, Result, sym, refl, ap, ◌∙◌, subst, ap₂, zero-add, arith}
+use Rattle.std.proofs.Common.{◌≡◌, ℕ, ◌≤◌, Bool, true, false, cond, ltb, leb, List, [], length, take, Some, None, Ok, Err, sym, refl, ap, ◌∙◌, subst, ap₂, zero-add, arith}
 use Rattle.std.proofs.lemmas.List.{take_at}
 use Rattle.alphabet.specs.Every.{every}
 use Rattle.alphabet.specs.Names.{all_distinct, may_name}
@@ -9,7 +9,6 @@ use Rattle.query.specs.declared.node.Stage.{Stage}
 use Rattle.query.specs.declared.node.Stage.TheVariants.{Bound}
 use Rattle.query.specs.Stands.{is_query, query_in}
 use Rattle.query.proofs.Standing.{is_query_sound}
-use Rattle.text.specs.declared.fault.WriteFault.{WriteFault}
 use Rattle.text.specs.declared.fault.WriteFault.TheVariants.{Sheet, Buffer, Records}
 use Rattle.writer.specs.Writing.{text_of, put_at, Wrote}
 use Rattle.writer.specs.Laying.{laid}

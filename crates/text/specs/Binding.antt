@@ -1,7 +1,6 @@
 -- What the names of a query that was read are bound to. Assumes nothing.
-use Rattle.std.specs.Prelude.{◌≡◌, ℕ, ◌+◌, ◌≤◌, Bool, true, false, cond, List, [], ◌∷◌, ◌++◌, map, length, take, drop, Some, None, Option, nat_lt}
+use Rattle.std.specs.Prelude.{◌≡◌, ℕ, ◌+◌, ◌≤◌, true, cond, List, [], ◌∷◌, ◌++◌, map, length, take, drop, Some, None, Option, nat_lt}
 use Rattle.alphabet.specs.Names.{index_of}
-use Rattle.query.specs.declared.node.Kind.{Kind}
 use Rattle.query.specs.declared.node.Node.{Node}
 use Rattle.query.specs.declared.node.Stage.TheVariants.{Read}
 use Rattle.query.specs.Stands.{is_query}

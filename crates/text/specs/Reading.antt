@@ -1,5 +1,5 @@
 -- What the sheet holds after a text was read into it, and what is answered. Assumes nothing.
-use Rattle.std.specs.Prelude.{ℕ, ◌-◌, Bool, true, false, cond, List, [], ◌++◌, length, replicate, Ok, Err, Result, nat_lt}
+use Rattle.std.specs.Prelude.{ℕ, ◌-◌, cond, List, [], ◌++◌, length, replicate, Ok, Err, Result, nat_lt}
 use Rattle.query.specs.declared.node.Node.{Node}
 use Rattle.query.specs.Stands.{blank}
 use Rattle.grammar.specs.Machine.{State}

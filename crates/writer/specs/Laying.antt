@@ -1,5 +1,5 @@
 -- A query written record by record, with the parentheses that are open. Assumes nothing.
-use Rattle.std.specs.Prelude.{ℕ, zero, suc, pred, Bool, cond, List, [], ◌∷◌, ◌++◌, drop}
+use Rattle.std.specs.Prelude.{ℕ, zero, suc, pred, cond, List, [], ◌∷◌, ◌++◌, drop}
 use Rattle.query.specs.declared.node.Node.{Node}
 use Rattle.grammar.specs.Spelling.{is_symbol}
 use Rattle.writer.specs.declared.pen.Pen.{Pen}

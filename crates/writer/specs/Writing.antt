@@ -1,5 +1,5 @@
 -- The text that a query is written as. Assumes nothing.
-use Rattle.std.specs.Prelude.{◌≡◌, ℕ, ◌+◌, ◌/◌, ◌%◌, Bool, true, false, cond, List, [], ◌∷◌, ◌++◌, length, take, drop, nat_lt, slice_index_or}
+use Rattle.std.specs.Prelude.{◌≡◌, ℕ, ◌+◌, ◌/◌, ◌%◌, cond, List, [], ◌∷◌, ◌++◌, length, take, drop, nat_lt, slice_index_or}
 use Rattle.query.specs.declared.node.Kind.{Kind}
 use Rattle.query.specs.Tree.{Query, node, Queries, none, more}
 use Rattle.grammar.specs.Names.{operator_word}

@@ -1,6 +1,5 @@
 use Rattle.std.proofs.Common.{◌∷◌, ◌++◌, length, sym, ap, ◌∙◌, append-nil, arith}
 use Rattle.grammar.specs.Names.{operator_word}
-use Rattle.writer.specs.Writing.{numeral}
 use Rattle.writer.proofs.Putting.{wrote_then, wrote_as, word_short, numeral_short, number_some, number_none}
 use Rattle.writer.proofs.put_head.Goals as goal
 

@@ -1,4 +1,4 @@
-use Rattle.std.proofs.Common.{◌≡◌, [], length, get_or, sym, ap, ◌∙◌, arith}
+use Rattle.std.proofs.Common.{length, ap, ◌∙◌, arith}
 use Rattle.alphabet.specs.Symbols.{names_of}
 use Rattle.writer.proofs.Putting.{wrote_as, wrote_nothing, name_short, name_is, name_none}
 use Rattle.writer.proofs.Pens.{not_symbol, symbol_text, head_only}

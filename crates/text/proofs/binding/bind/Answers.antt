@@ -1,6 +1,5 @@
-use Rattle.std.proofs.Common.{◌≡◌, length, take, is_ok, sym, ap, ◌∙◌}
+use Rattle.std.proofs.Common.{is_ok, sym, ap, ◌∙◌}
 use Rattle.alphabet.specs.Symbols.{names_of}
-use Rattle.text.specs.Binding.{bind_fault}
 use Rattle.text.proofs.Bound.{sheet_bound}
 use Rattle.text.proofs.binding.bind.Goals as goal
 

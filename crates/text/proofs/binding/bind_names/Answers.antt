@@ -4,7 +4,7 @@ use Rattle.std.proofs.ByRecursion.{All-get_or}
 use Rattle.std.proofs.lemmas.List.{get_or_default, get_or-take, length-take}
 use Rattle.alphabet.specs.Symbols.{names_of}
 use Rattle.query.specs.Stands.{blank}
-use Rattle.text.specs.Binding.{Lies, bound, bound_sheet}
+use Rattle.text.specs.Binding.{Lies, bound}
 use Rattle.text.proofs.Firsts.{take_min, drop_min}
 use Rattle.text.proofs.Names.{not_reached}
 use Rattle.text.proofs.binding.bind_names.Goals as goal

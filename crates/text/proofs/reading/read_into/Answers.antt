@@ -1,4 +1,4 @@
-use Rattle.std.proofs.Common.{◌≤◌, length, sym, ◌∙◌, ltb-false}
+use Rattle.std.proofs.Common.{length, sym, ◌∙◌, ltb-false}
 use Rattle.text.proofs.Promised.{blank_left}
 use Rattle.text.proofs.reading.read_into.Goals as goal
 

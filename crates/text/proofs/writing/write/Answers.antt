@@ -1,4 +1,4 @@
-use Rattle.std.proofs.Common.{◌≡◌, ◌≤◌, [], length, take, sym, refl, subst}
+use Rattle.std.proofs.Common.{◌≤◌, [], length, take, sym, subst}
 use Rattle.query.specs.declared.node.Stage.TheVariants.{Bound}
 use Rattle.alphabet.specs.Symbols.{names_of}
 use Rattle.writer.specs.Writing.{Wrote}

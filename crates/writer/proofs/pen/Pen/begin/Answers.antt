@@ -1,4 +1,4 @@
-use Rattle.std.proofs.Common.{◌≡◌, sym, refl, ◌∙◌, arith}
+use Rattle.std.proofs.Common.{refl, arith}
 use Rattle.writer.proofs.Pens.{begun_none, gap_none, begun_some, gap_some}
 use Rattle.writer.proofs.Putting.{wrote_as, wrote_nothing}
 use Rattle.writer.proofs.pen.Pen.begin.Goals as goal

@@ -1,4 +1,4 @@
-use Rattle.std.proofs.Common.{◌≡◌, sym, ◌∙◌, arith}
+use Rattle.std.proofs.Common.{◌∙◌, arith}
 use Rattle.writer.specs.Laying.{open_now}
 use Rattle.writer.proofs.Pens.{shuts_here, shut_some, shut_none, shutting_none, shutting_more, shutting_all}
 use Rattle.writer.proofs.pen.Pen.shut.Goals as goal
