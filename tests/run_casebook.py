@@ -1,6 +1,7 @@
 """Runs casebook on each text of casebook.txt and compares what it prints: run_casebook.py PROGRAM.
 
-A block is a text, with what is printed for it on the lines below, and a blank line; a text may be empty.
+A block is a text, with what is printed for it on the lines below, and a blank line; a text may be empty. It is given as an argument, and on
+standard input without and with a line's end.
 """
 
 import pathlib
@@ -26,10 +27,13 @@ def main():
     count = 0
     for text, expected in blocks(lines):
         args = ["--tidy", text[7:]] if text.startswith("--tidy ") else [text]
-        for given, stdin in ((args, ""), (args[:-1], args[-1])):
+        # With a line's end behind it, a text that ends too early is refused a byte later.
+        early = expected == [f"refused 3 {len(args[-1])}"]
+        later = [f"refused 3 {len(args[-1]) + 1}"] if early else expected
+        for given, stdin, wanted in ((args, "", expected), (args[:-1], args[-1], expected), (args[:-1], args[-1] + "\n", later)):
             ran = subprocess.run([program, *given], input=stdin, capture_output=True, text=True, check=True)
-            if ran.stdout.split("\n")[:-1] != expected:
-                sys.exit(f"casebook {text!r} printed\n{ran.stdout}\nand not\n" + "\n".join(expected))
+            if ran.stdout.split("\n")[:-1] != wanted:
+                sys.exit(f"casebook {text!r} printed\n{ran.stdout}\nand not\n" + "\n".join(wanted))
         count += 1
     print(f"casebook printed what it should for {count} texts, as arguments and on standard input")
 

@@ -2,11 +2,11 @@
 use Rattle.std.proofs.Common.{◌≡◌, ℕ, suc, ◌+◌, ◌-◌, ◌*◌, ◌<◌, ◌≤◌, false, ◌&&◌, eqb, leb, List, length, take, drop, Decides, ap, ⊎_elim, mul-le-mul_right, suc-mul, arith}
 use Rattle.std.proofs.lemmas.List.{length-drop, length-take-le, get_or_past}
 use Rattle.std.proofs.lemmas.Bool.{cases_Bool, and_parts, and_from, leb-true, le-leb, eqb-true, eq-eqb}
-use Rattle.alphabet.specs.RightSheets.{Laid_out}
+use Rattle.alphabet.specs.RightSheets.{LaidOut}
 use Rattle.alphabet.specs.Sheets.{layout_right, symbols_said, width_said, name_field, row_field}
 
 -- the test tells what it should
-pub layout_decides : (s : List ℕ) → Decides (layout_right s) (Laid_out s)
+pub layout_decides : (s : List ℕ) → Decides (layout_right s) (LaidOut s)
 unfolding layout_right
 layout_decides s = (
   λ t.
@@ -41,7 +41,7 @@ too_short s h =
     (λ f. f)
     (cases_Bool (layout_right s))
 
-module _ (s : List ℕ) (l : Laid_out s) (j : ℕ) (h : j < symbols_said s) where
+module _ (s : List ℕ) (l : LaidOut s) (j : ℕ) (h : j < symbols_said s) where
   pub name_ends : (2 + j * width_said s) + width_said s ≤ length s
   name_ends =
       let p : suc j * width_said s ≤ symbols_said s * width_said s = mul-le-mul_right (width_said s) h in

@@ -11,7 +11,7 @@ use Rattle.alphabet.specs.declared.name.Name.{Name}
 use Rattle.alphabet.specs.Carrying.{bounds_right}
 use Rattle.alphabet.specs.Every.{every}
 use Rattle.alphabet.specs.Names.{is_letter, is_among, index_of, may_name, all_distinct, operator_words}
-use Rattle.alphabet.specs.RightSheets.{Laid_out}
+use Rattle.alphabet.specs.RightSheets.{LaidOut}
 use Rattle.alphabet.specs.Sheets.{symbols_said, name_field, letters_of, is_space, well_formed, name_in, sheet_name, sheet_names, name_right, bounds_asking, asked_by, row_field, sheet_row, sheet_rows, symbol_fault, or_else, first_fault, unless, load_answer, layout_right, number_in}
 use Rattle.alphabet.specs.Spelling.{spelling, spellings}
 use Rattle.alphabet.proofs.Distinct.{distinct_push}
@@ -58,7 +58,7 @@ an_answer true x y e = (refl, cc)
 an_answer false x y e = absurd (let z : ◌≡◌ {A = ℕ} 0 1 = cc in omega arith)
 
 -- a name fits into sixteen letters
-pub name_short : (s : List ℕ) → Laid_out s → (j : ℕ) → j < symbols_said s → length (sheet_name s j) ≤ 16
+pub name_short : (s : List ℕ) → LaidOut s → (j : ℕ) → j < symbols_said s → length (sheet_name s j) ≤ 16
 name_short s l j h = omega (arith, letters_fit (name_field s j), length_name s l j h, l.narrow)
 
 -- a word that has an index among the earlier names is among them
@@ -159,7 +159,7 @@ name_may bs h t = go (well_formed bs && not (is_among operator_words (letters_of
         (and_from (leb 1 (length word)) (leb (length word) 16) formed.0 (le-leb (length word) 16 h))
         (and_from (every is_letter word) (not (is_among operator_words word)) (letters_are bs) parts.1)
 
-pub names_may : (s : List ℕ) → Laid_out s → (n : ℕ) → n ≤ symbols_said s → first_fault s n ≡ None → every may_name (sheet_names s n) ≡ true
+pub names_may : (s : List ℕ) → LaidOut s → (n : ℕ) → n ≤ symbols_said s → first_fault s n ≡ None → every may_name (sheet_names s n) ≡ true
 names_may s l zero h e = refl
 names_may s l (suc n) h e =
     let c = clear_at s n e in

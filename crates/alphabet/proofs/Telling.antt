@@ -17,7 +17,7 @@ use Rattle.alphabet.specs.Carrying.{furthest, bounds_right}
 use Rattle.alphabet.specs.Every.{every}
 use Rattle.alphabet.specs.Names.{is_letter, is_among, operator_words}
 use Rattle.alphabet.specs.RightAlphabets.{Letter}
-use Rattle.alphabet.specs.RightSheets.{Laid_out, Holds, RightName, RightRow, RightBelow, Tells, AnswerTells}
+use Rattle.alphabet.specs.RightSheets.{LaidOut, Holds, RightName, RightRow, RightBelow, Tells, AnswerTells}
 use Rattle.alphabet.specs.Sheets.{symbols_said, name_field, row_field, letters_of, is_space, well_formed, name_in, sheet_name, sheet_names, name_right, number_in, asked_by, bounds_asking, row_bounds, sheet_row, symbol_fault, or_else, first_fault, unless, load_answer, layout_right}
 use Rattle.alphabet.proofs.Fields.{layout_decides}
 use Rattle.alphabet.proofs.Lettering.{letters_are}
@@ -211,7 +211,7 @@ module _ (s : List ℕ) where
       ∙ cond-true (is_some (sheet_row s n)) None (Some (BadRow n)) ((row_decides (row_field s n)).1 here.1)
 
   -- a fault tells of its symbol
-  at_symbol : (l : Laid_out s) (n : ℕ) → n < symbols_said s → RightBelow s n → (t u : Bool) → name_right s n ≡ t → is_some (sheet_row s n) ≡ u
+  at_symbol : (l : LaidOut s) (n : ℕ) → n < symbols_said s → RightBelow s n → (t u : Bool) → name_right s n ≡ t → is_some (sheet_row s n) ≡ u
       → (f : SheetFault) → cond t (cond u None (Some (BadRow n))) (Some (BadName n)) ≡ Some f → Tells s (Err f)
   at_symbol l n h below true true a b f e = absurd (let z : ◌≡◌ {A = ℕ} 0 1 = cc in omega arith)
   at_symbol l n h below true false a b f e =
@@ -222,7 +222,7 @@ module _ (s : List ℕ) where
       let is : BadName n ≡ f = cc in
       subst (λ g. Tells s (Err g)) is (l, h, below, λ r. both_ways (name_right s n) a ((name_decides s n).1 r))
 
-  fault_tells : (l : Laid_out s) (n : ℕ) → n ≤ symbols_said s → (f : SheetFault) → first_fault s n ≡ Some f → Tells s (Err f)
+  fault_tells : (l : LaidOut s) (n : ℕ) → n ≤ symbols_said s → (f : SheetFault) → first_fault s n ≡ Some f → Tells s (Err f)
   fault_tells l zero h f e = absurd (let z : ◌≡◌ {A = ℕ} 0 1 = cc in omega arith)
   fault_tells l (suc n) h f e = go (first_fault s n) refl (fault_tells l n (omega arith)) e
     where
@@ -235,7 +235,7 @@ module _ (s : List ℕ) where
   tells_so : Tells s (load_answer s)
   tells_so = laid (layout_right s) refl
     where
-      found : Laid_out s → (o : Option SheetFault) → first_fault s (symbols_said s) ≡ o → Tells s (unless o)
+      found : LaidOut s → (o : Option SheetFault) → first_fault s (symbols_said s) ≡ o → Tells s (unless o)
       found l None e = (l, clear_right (symbols_said s) e)
       found l (Some f) e = fault_tells l (symbols_said s) (omega arith) f e
 

@@ -9,7 +9,7 @@ use Rattle.alphabet.specs.declared.fault.SheetFault.{SheetFault}
 use Rattle.alphabet.specs.declared.fault.SheetFault.TheVariants.{BadLayout, BadName, BadRow}
 
 -- 1 to 32 symbols, names 1 to 16 wide, and behind these two bytes a name and a row of 18 bytes for each symbol
-pub record Laid_out (sheet : List ℕ) : Type 0 where
+pub record LaidOut (sheet : List ℕ) : Type 0 where
   pub some_symbols : 1 ≤ symbols_said sheet
   pub few_symbols : symbols_said sheet ≤ 32
   pub some_width : 1 ≤ width_said sheet
@@ -43,11 +43,11 @@ RightBelow sheet n = (j : ℕ) → j < n → RightName sheet j × RightRow (row_
 
 -- what an answer says of a sheet: a fault names the first symbol with which all is not right, and its name goes before its row
 abbrev pub Tells : List ℕ → Result (Unit {0}) SheetFault → Type 0
-Tells sheet (Ok _) = Laid_out sheet × RightBelow sheet (symbols_said sheet)
-Tells sheet (Err BadLayout) = Laid_out sheet → ⊥
-Tells sheet (Err (BadName j)) = Laid_out sheet × (j < symbols_said sheet) × RightBelow sheet j × (RightName sheet j → ⊥)
+Tells sheet (Ok _) = LaidOut sheet × RightBelow sheet (symbols_said sheet)
+Tells sheet (Err BadLayout) = LaidOut sheet → ⊥
+Tells sheet (Err (BadName j)) = LaidOut sheet × (j < symbols_said sheet) × RightBelow sheet j × (RightName sheet j → ⊥)
 Tells sheet (Err (BadRow j)) =
-    Laid_out sheet × (j < symbols_said sheet) × RightBelow sheet j × RightName sheet j × (RightRow (row_field sheet j) → ⊥)
+    LaidOut sheet × (j < symbols_said sheet) × RightBelow sheet j × RightName sheet j × (RightRow (row_field sheet j) → ⊥)
 
 -- the answer of loading is the one that tells what is so
 abbrev pub AnswerTells : Type 0

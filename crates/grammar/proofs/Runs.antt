@@ -7,7 +7,7 @@ use Rattle.grammar.specs.declared.types.GrammarFault.TheVariants.{Unexpected, Nu
 use Rattle.grammar.specs.Spelling.{Placed, said, said_by, Follows}
 use Rattle.grammar.specs.Limits.{Tally, nothing, note, tally, number_fits, name_fits, fits, all_fit}
 use Rattle.grammar.specs.Machine.{State, move, number_right, room, checked, step, and_then, run, start, done}
-use Rattle.grammar.specs.Reading.{Right, First, Goes_on, Stuck, NumberWrong, OverLimit, Why}
+use Rattle.grammar.specs.Reading.{Right, First, GoesOn, Stuck, NumberWrong, OverLimit, Why}
 use Rattle.grammar.proofs.Forward.{moves, moves_append, moves_none, none_some, some_same}
 use Rattle.grammar.proofs.Language.{begins, goes, finishes, follows}
 use Rattle.grammar.proofs.Counting.{Agrees, move_agrees, moves_agree, start_agrees, number_same, room_same}
@@ -96,13 +96,13 @@ module _ (before : List Placed) (S : State) (w : Placed) (e : run before start �
   on : moves (said (before ++ w ∷ [])) (Some start) ≡ move S (said_by w)
   on = ap (λ l. moves l (Some start)) (said_append before (w ∷ [])) ∙ moves_append (said before) (said_by w ∷ []) (Some start) ∙ ap (moves (said_by w ∷ [])) reads
 
-  goes_on : (T : State) → move S (said_by w) ≡ Some T → Goes_on before w
+  goes_on : (T : State) → move S (said_by w) ≡ Some T → GoesOn before w
   goes_on T m = begins (said (before ++ w ∷ [])) T (on ∙ m)
 
   stuck : move S (said_by w) ≡ None → Stuck before w
   stuck m b = let g = goes (said (before ++ w ∷ [])) b in none_some g.0 (sym m ∙ sym on ∙ g.1)
 
-  moved : Goes_on before w → (T : State) × (move S (said_by w) ≡ Some T)
+  moved : GoesOn before w → (T : State) × (move S (said_by w) ≡ Some T)
   moved b = let g = goes (said (before ++ w ∷ [])) b in (g.0, sym on ∙ g.1)
 
   first : (Wrong : List Placed → Placed → Type 0) (after : List Placed) → Wrong before w → First Wrong (before ++ w ∷ after) w.0

@@ -13,7 +13,7 @@ use Rattle.grammar.specs.declared.types.Level.{Level}
 use Rattle.grammar.specs.declared.types.Point.{Point}
 use Rattle.grammar.specs.declared.types.Point.TheVariants.{Start, Opened, Inside}
 use Rattle.grammar.specs.declared.types.GrammarFault.{GrammarFault}
-use Rattle.grammar.specs.declared.types.GrammarFault.TheVariants.{Unexpected, Number as Number-fault, Limit}
+use Rattle.grammar.specs.declared.types.GrammarFault.TheVariants.{Unexpected, Number as NumberFault, Limit}
 use Rattle.grammar.specs.Names.{small, natural}
 use Rattle.grammar.specs.Spelling.{Said, lparen, rparen, counts, names, Placed, said_by, is_symbol}
 use Rattle.grammar.specs.Limits.{is_in}
@@ -178,7 +178,7 @@ room S closes = true
 
 abbrev pub checked : Option State → State → Placed → Result State GrammarFault
 checked None S w = Err (Unexpected w.0)
-checked (Some T) S w = cond (number_right S w.1) (cond (room S w.1) (Ok T) (Err (Limit w.0))) (Err (Number-fault w.0))
+checked (Some T) S w = cond (number_right S w.1) (cond (room S w.1) (Ok T) (Err (Limit w.0))) (Err (NumberFault w.0))
 
 -- one word, or why it is refused
 abbrev pub step : State → Placed → Result State GrammarFault

@@ -40,20 +40,20 @@ pub record First (Wrong : List Placed → Placed → Type 0) (ws : List Placed) 
   pub wrong : Wrong before word
 
 -- more can follow behind the word, as far as the grammar goes
-abbrev pub Goes_on : List Placed → Placed → Type 0
-Goes_on before w = Begins (said (before ++ w ∷ []))
+abbrev pub GoesOn : List Placed → Placed → Type 0
+GoesOn before w = Begins (said (before ++ w ∷ []))
 
 -- nothing can follow
 abbrev pub Stuck : List Placed → Placed → Type 0
-Stuck before w = Goes_on before w → ⊥
+Stuck before w = GoesOn before w → ⊥
 
 -- the word may stand here, but its number is over 255, has an extra zero, or is a length of 0
 abbrev pub NumberWrong : List Placed → Placed → Type 0
-NumberWrong before w = Goes_on before w × (number_fits (tally (said before)) w.1 ≡ false)
+NumberWrong before w = GoesOn before w × (number_fits (tally (said before)) w.1 ≡ false)
 
 -- the word may stand here, but is the 65th name or stands at the 17th level
 abbrev pub OverLimit : List Placed → Placed → Type 0
-OverLimit before w = Goes_on before w × (name_fits (tally (said before)) (said_by w) ≡ false)
+OverLimit before w = GoesOn before w × (name_fits (tally (said before)) (said_by w) ≡ false)
 
 -- why the words of a text of so many bytes are refused
 abbrev pub Why : GrammarFault → List Placed → ℕ → Type 0

@@ -60,11 +60,11 @@ abbrev pub Equal : List Node → ℕ → ℕ → Bool → Type 0
 Equal ns i j t = (q r : Query) (rest rest' : List Node) → Here ns i q rest → Here ns j r rest' → t ≡ alike q r
 
 -- where the first of the queries from index i on stands that passes a test
-abbrev pub Found_at : (Query → Bool) → ℕ → Queries → Option ℕ → Type 0
-Found_at test i qs None = some_part test qs ≡ false
-Found_at test i qs (Some j) =
+abbrev pub FoundAt : (Query → Bool) → ℕ → Queries → Option ℕ → Type 0
+FoundAt test i qs None = some_part test qs ≡ false
+FoundAt test i qs (Some j) =
     (xs : Queries) × (q : Query) × (ts : Queries) × (qs ≡ join xs (more q ts)) × (test q ≡ true) × (j ≡ i + length (records_each xs))
 
 -- the same of the m queries that stand there
 abbrev pub Finds : (Query → Bool) → List Node → ℕ → ℕ → Option ℕ → Type 0
-Finds test ns m i r = (qs : Queries) (rest : List Node) → count qs ≡ m → Row ns i qs rest → Found_at test i qs r
+Finds test ns m i r = (qs : Queries) (rest : List Node) → count qs ≡ m → Row ns i qs rest → FoundAt test i qs r

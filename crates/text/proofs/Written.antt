@@ -21,8 +21,8 @@ unfolding is_query
 query_few s xs e = leb-true (length xs) 64 (and_parts (leb (length xs) 64) _ e).0
 
 -- the answer is the refusal where there is one, else the length of the text
-pub write_answer-unless : (names : List (List ℕ)) (xs : List Node) (sheet buffer : ℕ) → write_answer names xs sheet buffer ≡ unless (write_fault names xs sheet buffer) (length (text_of names (query_in xs)))
-write_answer-unless names xs sheet buffer = go (ltb sheet 64) (ltb buffer 4096) (is_query (Bound (length names)) xs)
+pub write_answer_unless : (names : List (List ℕ)) (xs : List Node) (sheet buffer : ℕ) → write_answer names xs sheet buffer ≡ unless (write_fault names xs sheet buffer) (length (text_of names (query_in xs)))
+write_answer_unless names xs sheet buffer = go (ltb sheet 64) (ltb buffer 4096) (is_query (Bound (length names)) xs)
   where
     go : (s b q : Bool) → cond s (Err Sheet) (cond b (Err Buffer) (cond q (Ok (length (text_of names (query_in xs)))) (Err Records))) ≡ unless (cond s (Some Sheet) (cond b (Some Buffer) (cond q None (Some Records)))) (length (text_of names (query_in xs)))
     go true b q = refl
@@ -51,7 +51,7 @@ module _ (names : List (List ℕ)) (xs : List Node) (sheet : ℕ) (out : List �
       let long : r ≡ length text = w.ends ∙ zero-add _ ∙ ap length t in
       let holds = w.holds ∙ ap (put_at out 0) t in
       let same : take r after ≡ text = ap₂ (λ i l. take i l) long holds ∙ take_at text _ (length text) refl in (
-        ap (λ i. Ok i) long ∙ ap (λ o. unless o (length text)) sound ∙ sym (write_answer-unless names xs sheet (length out)),
+        ap (λ i. Ok i) long ∙ ap (λ o. unless o (length text)) sound ∙ sym (write_answer_unless names xs sheet (length out)),
         holds,
         subst (ReadsBack names (query_in xs)) (sym same) (rereads names may apart (query_in xs) (is_query_sound (Bound (length names)) xs q).1 (omega arith)),
       )

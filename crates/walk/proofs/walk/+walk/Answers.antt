@@ -1,7 +1,7 @@
 use Rattle.std.proofs.Common.{◌≡◌, ℕ, ◌+◌, ◌-◌, List, length, get_or, sym, refl, subst, arith, rules}
 use Rattle.query.specs.declared.node.Kind.TheVariants.{Any, Concat, And, Or, Inorder}
 use Rattle.query.specs.declared.node.Role.TheVariants.{Shape, Window, Count}
-use Rattle.query.specs.Stands.{at as query-at}
+use Rattle.query.specs.Stands.{at as query_at}
 use Rattle.shape.specs.Fits.{Rule}
 use Rattle.steps.specs.Meaning.{steps_of}
 use Rattle.steps.proofs.Length.{steps_few}
@@ -329,7 +329,7 @@ seen-repeat-requires t c =
     let o = opened c.args.levels c.args.records.now Shape c.args.i c.requires.deep c.requires.stands in
     let dd = o.deep in
     let deep = c.requires.deep in
-    let e = repeat_kind (query-at c.args.records.now c.args.i).kind o.kind_right c.in_default.not-Symbol c.in_default.not-Any c.in_default.not-Concat c.in_default.not-In in
+    let e = repeat_kind (query_at c.args.records.now c.args.i).kind o.kind_right c.in_default.not-Symbol c.in_default.not-Any c.in_default.not-Concat c.in_default.not-In in
     (omega arith, (o.inside, (e, ((as_repeat (steps_of c.args.steps.now) c.args.levels c.args.records.now c.args.i c.requires.deep o e).0, (omega arith, (c.requires.right, (c.requires.ready, (c.requires.low, c.requires.high))))))))
 
 pub seen-returns-in-Symbol : goal.seen-returns-in-Symbol
@@ -355,7 +355,7 @@ seen-returns-in-In t c =
 pub seen-returns-in_default : goal.seen-returns-in_default
 seen-returns-in_default t c =
     let o = opened c.args.levels c.args.records.now Shape c.args.i c.requires.deep c.requires.stands in
-    let e = repeat_kind (query-at c.args.records.now c.args.i).kind o.kind_right c.in_default.not-Symbol c.in_default.not-Any c.in_default.not-Concat c.in_default.not-In in
+    let e = repeat_kind (query_at c.args.records.now c.args.i).kind o.kind_right c.in_default.not-Symbol c.in_default.not-Any c.in_default.not-Concat c.in_default.not-In in
     subst (λ (P : Rule). Shows c.repeat.new.out P c.args.view c.args.to (length (steps_of c.args.steps.now))) (sym (as_repeat (steps_of c.args.steps.now) c.args.levels c.args.records.now c.args.i c.requires.deep o e).1) c.repeat.ensures
 
 pub starts-overflow_add-s : goal.starts-overflow_add-s
