@@ -1,4 +1,4 @@
-//! A plain twin of the proved matcher: the same scheme, without proofs, to measure it by.
+//! A plain twin of the proved matcher, without proofs, to measure it by. It keeps fewer tables than the proved code (docs/SPEED.md).
 
 use crate::shape::{Shape, Window};
 

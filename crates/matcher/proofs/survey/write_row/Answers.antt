@@ -1,4 +1,4 @@
-use Rattle.std.proofs.Common.{◌≡◌, ◌+◌, ◌<◌, List, length, ap, ◌∙◌, subst, arith, rules}
+use Rattle.std.proofs.Common.{◌≡◌, ◌+◌, ◌<◌, ◌≤◌, List, length, ap, ◌∙◌, subst, arith, rules}
 use Rattle.shape.specs.declared.stretch.Stretch.{Stretch}
 use Rattle.tables.specs.Holds.{holds}
 use Rattle.matcher.specs.Answers.{Puts}
@@ -21,7 +21,8 @@ loop-b-init c =
 pub offset_bounds-out-next : goal.offset_bounds-out-next
 offset_bounds-out-next c =
     let t = c.loop-b.invariant.4 (let u = c.loop-b-test.true in let v = c.requires.small in omega arith) in
-    let r = row_room (holds c.args.table.now) c.args.a c.args.n c.loop-b.b c.loop-b.invariant.2 c.loop-b-test.true t in
+    let on : c.loop-b.b ≤ c.args.n = omega arith in
+    let r = row_room (holds c.args.table.now) c.args.a c.args.n c.loop-b.b c.loop-b.invariant.2 on t in
     let e = c.loop-b.invariant.1 in
     let k : length c.loop-b.out ≡ length c.args.out.now = c.loop-b.auto.out in
     let q = c.requires.room in
@@ -30,7 +31,8 @@ offset_bounds-out-next c =
 pub bounds-out-next : goal.bounds-out-next
 bounds-out-next c =
     let t = c.loop-b.invariant.4 (let u = c.loop-b-test.true in let v = c.requires.small in omega arith) in
-    let r = row_room (holds c.args.table.now) c.args.a c.args.n c.loop-b.b c.loop-b.invariant.2 c.loop-b-test.true t in
+    let on : c.loop-b.b ≤ c.args.n = omega arith in
+    let r = row_room (holds c.args.table.now) c.args.a c.args.n c.loop-b.b c.loop-b.invariant.2 on t in
     let e = c.loop-b.invariant.1 in
     let k : length c.loop-b.out ≡ length c.args.out.now = c.loop-b.auto.out in
     let q = c.requires.room in
@@ -39,7 +41,8 @@ bounds-out-next c =
 pub overflow_add-next : goal.overflow_add-next
 overflow_add-next c =
     let t = c.loop-b.invariant.4 (let u = c.loop-b-test.true in let v = c.requires.small in omega arith) in
-    let r = row_room (holds c.args.table.now) c.args.a c.args.n c.loop-b.b c.loop-b.invariant.2 c.loop-b-test.true t in
+    let on : c.loop-b.b ≤ c.args.n = omega arith in
+    let r = row_room (holds c.args.table.now) c.args.a c.args.n c.loop-b.b c.loop-b.invariant.2 on t in
     let e = c.loop-b.invariant.1 in
     let k : length c.loop-b.out ≡ length c.args.out.now = c.loop-b.auto.out in
     let q = c.requires.room in
@@ -48,17 +51,19 @@ overflow_add-next c =
 pub loop-b-preserved : goal.loop-b-preserved
 loop-b-preserved c =
     let t = c.loop-b.invariant.4 (let u = c.loop-b-test.true in let v = c.requires.small in omega arith) in
-    let r = row_room (holds c.args.table.now) c.args.a c.args.n c.loop-b.b c.loop-b.invariant.2 c.loop-b-test.true t in
+    let on : c.loop-b.b ≤ c.args.n = omega arith in
+    let r = row_room (holds c.args.table.now) c.args.a c.args.n c.loop-b.b c.loop-b.invariant.2 on t in
     let e = c.loop-b.invariant.1 in
     let k : length c.loop-b.out ≡ length c.args.out.now = c.loop-b.auto.out in
     let q = c.requires.room in
     let f : c.loop-b.next < length c.loop-b.out = omega arith in
     row_goes_on (holds c.args.table.now) c.args.a c.args.n c.loop-b.b _ c.args.place c.loop-b.next c.args.out.now c.loop-b.out
-    c.loop-b.invariant.2 c.loop-b-test.true t e f c.loop-b.invariant.0 (search rules)
+    c.loop-b.invariant.2 on t e f c.loop-b.invariant.0 (search rules)
 
 pub returns : goal.returns
 returns c =
-    let s = row_end (holds c.args.table.now) c.args.a c.args.n c.loop-b.b c.loop-b-test.false in
+    let past : c.args.n < c.loop-b.b = omega arith in
+    let s = row_end (holds c.args.table.now) c.args.a c.args.n c.loop-b.b past in
     record {
       written = subst (λ (l : List Stretch). Puts c.args.out.now c.loop-b.out l c.args.place) s c.loop-b.invariant.0;
       next = c.loop-b.invariant.1 ∙ ap (λ (l : List Stretch). c.args.place + length l) s;
