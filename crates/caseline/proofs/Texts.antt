@@ -1,6 +1,6 @@
 -- The texts of the shapes on the case line, read and bound by computing.
 use Rattle.std.proofs.Common.{◌≡◌, ℕ, Bool, true, false, ◌&&◌, List, [], ◌∷◌, refl}
-use Rattle.std.proofs.lemmas.Bool.{false≢true}
+use Rattle.std.proofs.lemmas.Bool.{and_parts, false≢true}
 use Rattle.alphabet.specs.CaseAlphabet.{case_names}
 use Rattle.grammar.specs.Names.{kind_named, small}
 use Rattle.query.specs.Tree.{alike}
@@ -16,16 +16,12 @@ all_given [] (x ∷ xs) = false
 all_given (t ∷ ts) [] = false
 all_given (t ∷ ts) (x ∷ xs) = gives case_names x.shape t && all_given ts xs
 
-both : (a b : Bool) → (a && b) ≡ true → (a ≡ true) × (b ≡ true)
-both true b e = (refl, e)
-both false b e = absurd (false≢true e)
-
 given : (ts : List (List ℕ)) (xs : List Case) → all_given ts xs ≡ true → Give ts xs
 given [] [] e = tt
 given [] (x ∷ xs) e = false≢true e
 given (t ∷ ts) [] e = false≢true e
 given (t ∷ ts) (x ∷ xs) e =
-    let b = both (gives case_names x.shape t) (all_given ts xs) e in
+    let b = and_parts (gives case_names x.shape t) (all_given ts xs) e in
     (gives_back case_names x.shape t b.0, given ts xs b.1)
 
 pub texts_give_cases : Give texts cases
