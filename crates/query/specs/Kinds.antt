@@ -1,5 +1,5 @@
 -- The numbers of the kinds. Assumes nothing.
-use Rattle.std.specs.Prelude.{ℕ, Bool, ◌==◌}
+use Rattle.std.specs.Prelude.{ℕ, Bool, ◌||◌, ◌==◌}
 use Rattle.query.specs.declared.node.Kind.{Kind}
 use Rattle.query.specs.declared.node.Kind.TheVariants.{Symbol, Any, Concat, Exact, Atleast, Atmost, In, Precisely, Noless, Nomore, And, Or, Inorder}
 
@@ -22,3 +22,7 @@ kind_number Inorder = 12
 -- whether two kinds are one
 abbrev pub same_kind : Kind → Kind → Bool
 same_kind k l = kind_number k == kind_number l
+
+-- exact, atleast or atmost
+abbrev pub repeats : Kind → Bool
+repeats k = same_kind k Exact || (same_kind k Atleast || same_kind k Atmost)

@@ -3,7 +3,7 @@
 #![tactic(auto)]
 
 ghost use Rattle.std.specs.Prelude.{◌≡◌, ◌+◌, ◌&&◌, length, Decides, nat_le};
-ghost use Rattle.query.specs.Kinds.{kind_number};
+ghost use Rattle.query.specs.Kinds.{kind_number, repeats};
 ghost use Rattle.query.specs.Rules.{allows, AreQuery};
 ghost use Rattle.query.specs.Rules.{part_role as partRole, parts_right, number_right as numberRight, record_right};
 ghost use Rattle.query.specs.Laws.{Stands, ReadsBack, EqualButForWords};
@@ -51,6 +51,13 @@ impl Kind {
             Kind::And | Kind::Or => Role::Count,
             _ => Role::Shape,
         }
+    }
+
+    /// Whether the kind is exact, atleast or atmost.
+    pub fn is_repeat(self) -> bool
+        ensures { result ≡ repeats self }
+    {
+        matches!(self, Kind::Exact | Kind::Atleast | Kind::Atmost)
     }
 
     /// Whether the kind may have so many parts.

@@ -5,6 +5,7 @@ use Rattle.std.specs.Prelude.{ℕ, ◌+◌, Bool, false, not, ◌&&◌, ◌||◌
 use Rattle.query.specs.declared.node.Kind.{Kind}
 use Rattle.query.specs.declared.node.Kind.TheVariants.{Any, Concat, Exact, Atleast, Atmost, In, And, Or}
 use Rattle.query.specs.Kinds.{same_kind}
+pub use Rattle.query.specs.Kinds.{repeats}
 use Rattle.query.specs.Tree.{Query, node, Queries, none, more, count, alike, alike_each}
 
 -- the kind, the number and the parts of a query
@@ -16,10 +17,6 @@ number_of (node k n p l qs) = n
 
 abbrev pub parts_of : Query → Queries
 parts_of (node k n p l qs) = qs
-
--- exact, atleast and atmost
-abbrev pub repeats : Kind → Bool
-repeats k = same_kind k Exact || (same_kind k Atleast || same_kind k Atmost)
 
 -- any, and, or: the order of the parts says nothing
 abbrev pub unordered : Kind → Bool

@@ -1,11 +1,12 @@
 -- Where queries stand in records, and what is kept of them. Assumes nothing.
-use Rattle.std.specs.Prelude.{◌≡◌, ℕ, ◌+◌, ◌≤◌, Bool, true, false, List, length, Some, ◌≢◌, slice_index, slice_index_or, slice_set}
+use Rattle.std.specs.Prelude.{◌≡◌, ℕ, ◌+◌, ◌≤◌, true, List, length, Some, ◌≢◌, slice_index, slice_index_or, slice_set}
 use Rattle.query.specs.declared.node.Kind.{Kind}
 use Rattle.query.specs.declared.node.Kind.TheVariants.{Symbol, Any, Concat, Exact, Atleast, Atmost, In, Precisely, Noless, Nomore, And, Or, Inorder}
 use Rattle.query.specs.declared.node.Node.{Node}
 use Rattle.query.specs.declared.node.Role.{Role}
 use Rattle.query.specs.declared.node.Role.TheVariants.{Shape}
 use Rattle.query.specs.declared.node.Stage.{Stage}
+pub use Rattle.query.specs.Kinds.{repeats}
 use Rattle.query.specs.Stands.{at, parts_from, next_at, tree_at, ends, end_at, is_query}
 use Rattle.shape.specs.Fits.{Rule, fits, fits_each}
 use Rattle.ends.specs.Member.{nothing}
@@ -47,22 +48,6 @@ many_of Nomore n = AtMost n
 many_of And n = AtMost n
 many_of Or n = AtMost n
 many_of Inorder n = AtMost n
-
--- a repeat
-abbrev pub repeats : Kind → Bool
-repeats Symbol = false
-repeats Any = false
-repeats Concat = false
-repeats Exact = true
-repeats Atleast = true
-repeats Atmost = true
-repeats In = false
-repeats Precisely = false
-repeats Noless = false
-repeats Nomore = false
-repeats And = false
-repeats Or = false
-repeats Inorder = false
 
 -- what is kept of record i for a repeat is right
 pub record Ready (k : Kept) (ns : List Node) (words : List ℕ) (i : ℕ) : Type 0 where

@@ -1,16 +1,16 @@
 //! What is kept of each record is made once, parts before wholes.
 
-ghost use Rattle.std.specs.Prelude.{◌≡◌, ℕ, ◌+◌, ◌<◌, ◌≤◌, Bool, true, length, slice_index};
+ghost use Rattle.std.specs.Prelude.{◌≡◌, ℕ, ◌+◌, ◌<◌, ◌≤◌, true, length, slice_index};
 ghost use Rattle.query.specs.declared.node.Role.{Role};
 ghost use Rattle.query.specs.Stands.{next_at};
 ghost use Rattle.steps.specs.Meaning.{steps_of};
-ghost use Rattle.walk.specs.Walk.{Stands, Somehow, repeats, Ready};
+ghost use Rattle.walk.specs.Walk.{Stands, Somehow, Ready};
 ghost use Rattle.walk.specs.Walk.{KeptNext, KeptRepeat, KeptOwn, RightFrom};
 
 use crate::kept::Kept;
 use crate::walk::{many_of, seen};
 use ends::Ends;
-use query::{Kind, Node, Role};
+use query::{Node, Role};
 use steps::Steps;
 use tables::Table;
 use wholes::View;
@@ -25,13 +25,6 @@ impl Kept {
             stops: [Ends::empty(); 64],
         }
     }
-}
-
-// Whether records of the kind are repeats.
-fn is_repeat(kind: Kind) -> bool
-    ensures { result ≡ repeats kind }
-{
-    matches!(kind, Kind::Exact | Kind::Atleast | Kind::Atmost)
 }
 
 // The record after the query at record i, where that of each later record is kept.
@@ -63,7 +56,7 @@ fn keep_repeat(kept: &mut Kept, records: &[Node], steps: &Steps, i: usize)
     ensures { KeptRepeat kept.old kept.new records.now (steps_of steps.now) i }
 {
     let node = records[i];
-    if !is_repeat(node.kind) {
+    if !node.kind.is_repeat() {
         return;
     }
     let own = kept.own[i + 1];
