@@ -2,8 +2,8 @@
 
 #![tactic(auto)]
 
-ghost use Rattle.std.specs.Prelude.{◌≡◌, ℕ};
-ghost use Rattle.refusal.specs.Told.{Told};
+ghost use Rattle.std.specs.Prelude.{◌≡◌, ℕ, Some};
+ghost use Rattle.refusal.specs.Told.{Told, told_text};
 
 use std::fmt;
 
@@ -41,6 +41,8 @@ impl<F: Refusal + Drop> From<F> for Refused {
 }
 
 impl fmt::Display for Refused {
+    ghost output = { λ r. Some (told_text r) };
+
     fn fmt<W: fmt::Write>(&self, f: &mut fmt::Formatter<W>) -> fmt::Result {
         write!(f, "refused {} {}", self.number, self.returned)
     }

@@ -2,3 +2,4 @@ pub mod Ranges
 pub mod Fits
 pub mod Listing
 pub mod Laws
+pub mod Printed
