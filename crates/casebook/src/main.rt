@@ -2,16 +2,15 @@
 
 #![tactic(auto)]
 
-use alphabet::Alphabet;
+mod bound;
+
 use book::{RunBook, WordSheet};
-use matcher::list;
-use query::Node;
+use bound::Bound;
+use refusal::Refused;
 use shape::Stretch;
 use std::env;
 use std::io::Read;
 use steps::Steps;
-use text::{BoundShape, bind, read, write};
-use tidy::tidy;
 
 // What the program is asked for.
 #[derive(Drop)]
@@ -67,44 +66,26 @@ fn case_steps(symbols: u8) -> Steps {
     steps
 }
 
-fn refuse(rt: &HostRuntime, number: u8, place: usize) -> anyhow::Result<()> {
-    println!(rt; "refused {number} {place}")?;
+fn print_listing(rt: &HostRuntime, bound: &Bound) -> anyhow::Result<()> {
+    let mut out = [Stretch { start: 0, end: 0 }; 64];
+    match bound.list(&case_steps(bound.symbols()), &mut out) {
+        Ok(count) => {
+            for x in out.iter().take(count) {
+                println!(rt; "{x}")?;
+            }
+            println!(rt; "{count} shapes")?;
+        }
+        Err(refused) => println!(rt; "{refused}")?,
+    }
     Ok(())
 }
 
-fn print_listing(
-    rt: &HostRuntime,
-    shape: &BoundShape,
-    sheet: &[Node],
-    symbols: u8,
-) -> anyhow::Result<()> {
-    let mut out = [Stretch { start: 0, end: 0 }; 64];
-    match list(shape, sheet, symbols, &case_steps(symbols), &mut out) {
-        Ok(count) => {
-            for x in out.iter().take(count) {
-                println!(rt; "{} {}", x.start, x.end)?;
-            }
-            println!(rt; "{count} shapes")?;
-            Ok(())
-        }
-        Err(fault) => refuse(rt, fault.number(), fault.returned()),
-    }
-}
-
 // Tidies the query, and prints the text that it is then written as.
-fn print_tidied(
-    rt: &HostRuntime,
-    shape: &mut BoundShape,
-    sheet: &mut [Node],
-    alphabet: &Alphabet,
-) -> anyhow::Result<()> {
-    if let Err(fault) = tidy(shape, sheet) {
-        return refuse(rt, fault.number(), fault.returned() as usize);
-    }
+fn print_tidied(rt: &HostRuntime, bound: &mut Bound) -> anyhow::Result<()> {
     let mut out = [0u8; 4096];
-    match write(shape, sheet, alphabet, &mut out) {
+    match bound.tidied(&mut out) {
         Ok(length) => print_text(rt, &out[0..length.min(4096)]),
-        Err(fault) => refuse(rt, fault.number(), fault.returned()),
+        Err(refused) => Ok(println!(rt; "{refused}")?),
     }
 }
 
@@ -116,27 +97,16 @@ fn print_text(rt: &HostRuntime, text: &[u8]) -> anyhow::Result<()> {
 }
 
 fn answer(rt: &HostRuntime, asked: &Asked) -> anyhow::Result<()> {
-    let text = asked.text.as_slice();
-    let alphabet = Alphabet::new();
-    let mut sheet = [Node::blank(); 64];
-    let shape = match read(text, &mut sheet) {
-        Ok(shape) => shape,
-        Err(fault) => return refuse(rt, fault.number(), fault.returned()),
-    };
-    let mut bound = match bind(shape, &mut sheet, text, &alphabet) {
+    let mut bound = match Bound::new(asked.text.as_slice()) {
         Ok(bound) => bound,
-        Err(unbound) => return refuse(rt, unbound.fault.number(), unbound.fault.returned()),
+        Err(refused) => return Ok(println!(rt; "{refused}")?),
     };
     if asked.tidy {
-        print_tidied(rt, &mut bound, &mut sheet, &alphabet)?;
+        print_tidied(rt, &mut bound)?;
     }
-    print_listing(rt, &bound, &sheet, alphabet.symbols())
-}
-
-fn run(rt: &HostRuntime) -> anyhow::Result<()> {
-    answer(rt, &what_is_asked(rt)?)
+    print_listing(rt, &bound)
 }
 
 fn main(rt: HostRuntime) -> anyhow::Result<()> {
-    run(&rt)
+    answer(&rt, &what_is_asked(&rt)?)
 }

@@ -5,8 +5,28 @@
 ghost use Rattle.std.specs.Prelude.{◌<◌, IfSome};
 
 use query::Node;
+use refusal::Refused;
+use std::fmt;
 use std::io::{BufRead, BufReader};
 use text::read;
+
+// A record as it is printed.
+struct Printed<'a>(&'a Node);
+
+impl<'a> fmt::Display for Printed<'a> {
+    fn fmt<W: fmt::Write>(&self, f: &mut fmt::Formatter<W>) -> fmt::Result {
+        let x = *self.0;
+        write!(
+            f,
+            "{},{},{},{},{}",
+            x.kind.number(),
+            x.number,
+            x.parts,
+            x.place,
+            x.length
+        )
+    }
+}
 
 // The value of a hexadecimal digit.
 fn digit(b: u8) -> Option<u8>
@@ -22,30 +42,20 @@ fn digit(b: u8) -> Option<u8>
 // The bytes that a line spells, as far as it spells any.
 fn unspelled(rt: &HostRuntime, line: &[u8]) -> anyhow::Result<Vec<u8>> {
     let mut bytes = Vec::new(rt.alloc());
-    for pair in line.chunks(2) {
+    for pair in line.chunks_exact(2) {
         if let [high, low] = pair {
-            if let Some(high) = digit(*high) {
-                if let Some(low) = digit(*low) {
-                    bytes.push(high * 16 + low)?;
-                }
+            if let (Some(high), Some(low)) = (digit(*high), digit(*low)) {
+                bytes.push(high * 16 + low)?;
             }
         }
     }
     Ok(bytes)
 }
 
-// The records, each as its kind, number, parts, place and length.
 fn print_records(rt: &HostRuntime, records: &[Node]) -> anyhow::Result<()> {
     print!(rt; "read")?;
-    for x in records {
-        print!(rt;
-            " {},{},{},{},{}",
-            x.kind.number(),
-            x.number,
-            x.parts,
-            x.place,
-            x.length
-        )?;
+    for node in records {
+        print!(rt; " {}", Printed(node))?;
     }
     println!(rt)?;
     Ok(())
@@ -54,26 +64,15 @@ fn print_records(rt: &HostRuntime, records: &[Node]) -> anyhow::Result<()> {
 fn answer(rt: &HostRuntime, text: &[u8]) -> anyhow::Result<()> {
     let mut sheet = [Node::blank(); 64];
     match read(text, &mut sheet) {
-        Ok(shape) => {
-            let count = shape.count().min(64);
-            print_records(rt, &sheet[0..count])
-        }
-        Err(fault) => {
-            println!(rt; "refused {} {}", fault.number(), fault.returned())?;
-            Ok(())
-        }
+        Ok(shape) => print_records(rt, &sheet[0..shape.count().min(64)]),
+        Err(fault) => Ok(println!(rt; "{}", Refused::from(fault))?),
     }
-}
-
-fn run(rt: &HostRuntime) -> anyhow::Result<()> {
-    for line in BufReader::new(rt.alloc(), rt.stdin())?.lines(rt.alloc()) {
-        let line = line?;
-        let text = unspelled(rt, line.as_bytes())?;
-        answer(rt, text.as_slice())?;
-    }
-    Ok(())
 }
 
 fn main(rt: HostRuntime) -> anyhow::Result<()> {
-    run(&rt)
+    for line in BufReader::new(rt.alloc(), rt.stdin())?.lines(rt.alloc()) {
+        let text = unspelled(&rt, line?.as_bytes())?;
+        answer(&rt, text.as_slice())?;
+    }
+    Ok(())
 }
