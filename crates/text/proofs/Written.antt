@@ -30,6 +30,12 @@ write_answer_unless names xs sheet buffer = go (ltb sheet 64) (ltb buffer 4096) 
     go false false true = refl
     go false false false = refl
 
+-- what is answered and written, where nothing is wrong
+pub record Written (names : List (List ℕ)) (xs : List Node) (sheet : ℕ) (before after : List ℕ) (r : ℕ) : Type 0 where
+  pub answer : Ok r ≡ write_answer names xs sheet (length before)
+  pub out : after ≡ put_at before 0 (text_of names (query_in xs))
+  pub back : ReadsBack names (query_in xs) (take r after)
+
 module _ (names : List (List ℕ)) (xs : List Node) (sheet : ℕ) (out : List ℕ) (sound : None ≡ write_fault names xs sheet (length out)) where
   -- what is written is a bound query, and there is room for it
   pub may_write : (is_query (Bound (length names)) xs ≡ true) × (4096 ≤ length out)
@@ -43,15 +49,16 @@ module _ (names : List (List ℕ)) (xs : List Node) (sheet : ℕ) (out : List �
 
   -- the text of the query is written, and reads back
   pub written : (after : List ℕ) (r : ℕ) → Wrote out 0 (laid names [] xs) after r → every may_name names ≡ true → all_distinct names ≡ true → r ≤ 1152 →
-      (Ok r ≡ write_answer names xs sheet (length out)) × (after ≡ put_at out 0 (text_of names (query_in xs))) × ReadsBack names (query_in xs) (take r after)
+      Written names xs sheet out after r
   written after r w may apart short =
       let q = may_write.0 in
       let text = text_of names (query_in xs) in
       let t : laid names [] xs ≡ text = laid_query names (Bound (length names)) xs q in
       let long : r ≡ length text = w.ends ∙ zero-add _ ∙ ap length t in
       let holds = w.holds ∙ ap (put_at out 0) t in
-      let same : take r after ≡ text = ap₂ (λ i l. take i l) long holds ∙ take_at text _ (length text) refl in (
-        ap (λ i. Ok i) long ∙ ap (λ o. unless o (length text)) sound ∙ sym (write_answer_unless names xs sheet (length out)),
-        holds,
-        subst (ReadsBack names (query_in xs)) (sym same) (rereads names may apart (query_in xs) (is_query_sound (Bound (length names)) xs q).1 (omega arith)),
-      )
+      let same : take r after ≡ text = ap₂ (λ i l. take i l) long holds ∙ take_at text _ (length text) refl in
+      record {
+        answer = ap (λ i. Ok i) long ∙ ap (λ o. unless o (length text)) sound ∙ sym (write_answer_unless names xs sheet (length out));
+        out = holds;
+        back = subst (ReadsBack names (query_in xs)) (sym same) (rereads names may apart (query_in xs) (is_query_sound (Bound (length names)) xs q).1 (omega arith));
+      }
