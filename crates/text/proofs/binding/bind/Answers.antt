@@ -1,4 +1,4 @@
-use Rattle.std.proofs.Common.{◌≡◌, length, take, Some, None, sym, ap, ◌∙◌, rules}
+use Rattle.std.proofs.Common.{◌≡◌, length, take, None, ap, ◌∙◌, rules}
 use Rattle.alphabet.specs.Symbols.{names_of}
 use Rattle.query.specs.declared.node.Stage.TheVariants.{Bound}
 use Rattle.query.specs.Stands.{is_query}

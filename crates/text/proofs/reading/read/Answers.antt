@@ -1,4 +1,4 @@
-use Rattle.std.proofs.Common.{◌≡◌, ◌≤◌, [], ◌++◌, drop, length, Ok, sym, ap, ◌∙◌, subst, ap₂, rules, ltb-false}
+use Rattle.std.proofs.Common.{◌≡◌, ◌≤◌, [], ◌++◌, drop, length, Ok, sym, ◌∙◌, rules, ltb-false}
 use Rattle.parser.specs.Seen.{seen}
 use Rattle.text.specs.Reading.{padded}
 use Rattle.text.proofs.Padding.{blanks, in_front}

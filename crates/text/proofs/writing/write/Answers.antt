@@ -1,4 +1,4 @@
-use Rattle.std.proofs.Common.{length, sym, subst}
+use Rattle.std.proofs.Common.{length, subst}
 use Rattle.query.specs.declared.node.Stage.TheVariants.{Bound}
 use Rattle.alphabet.specs.Symbols.{names_of}
 use Rattle.text.proofs.Written.{query_few, may_write, written, Written}
