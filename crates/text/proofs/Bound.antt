@@ -1,11 +1,11 @@
 -- The records of a query that was read, once bound, are a bound query.
-use Rattle.std.proofs.Common.{◌≡◌, ℕ, suc, ◌<◌, max, Bool, true, false, cond, ◌&&◌, ltb, leb, List, [], ◌∷◌, ◌++◌, map, length, get_or, take, drop, is_ok, Some, None, Option, sym, refl, ap, ◌∙◌, ap₂, inl, inr, append-nil, arith}
+use Rattle.std.proofs.Common.{◌≡◌, ℕ, suc, ◌<◌, max, Bool, true, false, cond, ◌&&◌, ltb, leb, List, [], ◌∷◌, ◌++◌, map, length, get_or, take, drop, Some, None, Option, sym, refl, ap, ◌∙◌, ap₂, rules, inl, inr, append-nil, arith}
 use Rattle.std.proofs.lemmas.List.{length-append, length-map, length-take-le, take_all, drop_all, take_at, map-append}
-use Rattle.std.proofs.lemmas.Bool.{cases_lt, cond-false, and_parts, and_from, lt-ltb, le-ltb, false≢true}
+use Rattle.std.proofs.lemmas.Grind.{common_steps}
+use Rattle.std.proofs.lemmas.Bool.{cases_lt, cond-false, and_parts, and_from, le-ltb}
 use Rattle.alphabet.specs.Names.{index_of, name_at}
 use Rattle.alphabet.proofs.Distinct.{found_named}
 use Rattle.query.specs.declared.node.Kind.{Kind}
-use Rattle.query.specs.declared.node.Kind.TheVariants.{Symbol, Any, Concat, Exact, Atleast, Atmost, In, Precisely, Noless, Nomore, And, Or, Inorder}
 use Rattle.query.specs.declared.node.Node.{Node}
 use Rattle.query.specs.declared.node.Role.{Role}
 use Rattle.query.specs.declared.node.Role.TheVariants.{Shape}
@@ -15,46 +15,19 @@ use Rattle.query.specs.Rules.{allows, parts_right, part_role, number_right, reco
 use Rattle.query.specs.Stands.{is_query, query_in}
 use Rattle.query.proofs.Standing.{is_query_sound, is_query_found}
 use Rattle.grammar.specs.Spelling.{is_symbol}
-use Rattle.grammar.proofs.Forward.{none_some}
 use Rattle.text.specs.declared.fault.BindFault.{BindFault}
+use Rattle.text.specs.declared.fault.BindFault.TheVariants.{Sheet, Records}
 use Rattle.text.specs.Binding.{symbol_of, numbered_by, bound, missing, name_fault, or_else, unknown, bind_fault, bound_sheet}
-use Rattle.text.specs.Bound.{bind_answer, bind_sheet}
-use Rattle.text.specs.declared.shape.ReadShape.{ReadShape}
-use Rattle.text.proofs.Names.{fault_none, unbound_none, unbound_known}
 
 pub none_or : (o p : Option BindFault) → or_else o p ≡ None → (o ≡ None) × (p ≡ None)
 none_or None p e = (refl, e)
-none_or (Some f) p e = absurd (let z : ◌≡◌ {A = ℕ} 0 1 = cc in omega arith)
+none_or (Some f) p e = cc
 
-kept_number : (k : Kind) (t m n p l : ℕ) → is_symbol k ≡ false → number_right (Read t) k n p l ≡ true → number_right (Bound m) k n p l ≡ true
-kept_number Symbol t m n p l s e = absurd (false≢true (sym s))
-kept_number Any t m n p l s e = e
-kept_number Concat t m n p l s e = e
-kept_number Exact t m n p l s e = e
-kept_number Atleast t m n p l s e = e
-kept_number Atmost t m n p l s e = e
-kept_number In t m n p l s e = e
-kept_number Precisely t m n p l s e = e
-kept_number Noless t m n p l s e = e
-kept_number Nomore t m n p l s e = e
-kept_number And t m n p l s e = e
-kept_number Or t m n p l s e = e
-kept_number Inorder t m n p l s e = e
-
-symbol_number : (k : Kind) (m j p l : ℕ) → is_symbol k ≡ true → j < m → number_right (Bound m) k j p l ≡ true
-symbol_number Symbol m j p l s h = lt-ltb j m h
-symbol_number Any m j p l s h = absurd (false≢true s)
-symbol_number Concat m j p l s h = absurd (false≢true s)
-symbol_number Exact m j p l s h = absurd (false≢true s)
-symbol_number Atleast m j p l s h = absurd (false≢true s)
-symbol_number Atmost m j p l s h = absurd (false≢true s)
-symbol_number In m j p l s h = absurd (false≢true s)
-symbol_number Precisely m j p l s h = absurd (false≢true s)
-symbol_number Noless m j p l s h = absurd (false≢true s)
-symbol_number Nomore m j p l s h = absurd (false≢true s)
-symbol_number And m j p l s h = absurd (false≢true s)
-symbol_number Or m j p l s h = absurd (false≢true s)
-symbol_number Inorder m j p l s h = absurd (false≢true s)
+-- where nothing is wrong with a sheet, its first records are a query that was read, and all their names are known
+sound_parts : (short read : Bool) (o : Option BindFault) → None ≡ cond short (Some Sheet) (cond read o (Some Records)) → (read ≡ true) × (o ≡ None)
+sound_parts true read o e = cc
+sound_parts false true o e = (refl, sym e)
+sound_parts false false o e = cc
 
 module _ (names : List (List ℕ)) (text : List ℕ) where
   -- a symbol that is found is one of the alphabet's
@@ -64,20 +37,12 @@ module _ (names : List (List ℕ)) (text : List ℕ) where
     | inr g ↦
         let a = found_named names word j e in
         let b : name_at names j ≡ None = cond-false (ltb j (length names)) (Some (get_or names j [])) None (le-ltb j (length names) g) in
-        absurd (none_some word (sym b ∙ a))
+        cc
   ]
-
-  numbered_is : (o : Option ℕ) (x : Node) → numbered_by o x ≡ record { kind = x.kind; number = (numbered_by o x).number; parts = x.parts; place = x.place; length = x.length }
-  numbered_is None x = refl
-  numbered_is (Some j) x = refl
 
   -- binding changes only the number of a record
   bound_is : (x : Node) → record { kind = x.kind; number = (bound names text x).number; parts = x.parts; place = x.place; length = x.length } ≡ bound names text x
-  bound_is x = go (is_symbol x.kind)
-    where
-      go : (t : Bool) → record { kind = x.kind; number = (cond t (numbered_by (symbol_of names text x) x) x).number; parts = x.parts; place = x.place; length = x.length } ≡ cond t (numbered_by (symbol_of names text x) x) x
-      go true = sym (numbered_is (symbol_of names text x) x)
-      go false = refl
+  bound_is x = grind (arith, common_steps)
 
   abbrev here : Kind → ℕ → ℕ → ℕ → ℕ → Node
   here k n m p l = record { kind = k; number = n; parts = m; place = p; length = l }
@@ -127,13 +92,13 @@ module _ (names : List (List ℕ)) (text : List ℕ) where
   bound_right k t n m p l e f = go (is_symbol k) refl f
     where
       found : (o : Option ℕ) → is_symbol k ≡ true → symbol_of names text (here k n m p l) ≡ o → missing o (here k n m p l) ≡ None → number_right (Bound (length names)) k (numbered_by o (here k n m p l)).number p l ≡ true
-      found None s z f = absurd (let z : ◌≡◌ {A = ℕ} 0 1 = cc in omega arith)
-      found (Some j) s z f = symbol_number k (length names) j p l s (found_below _ j z)
+      found None s z f = cc
+      found (Some j) s z f = let below = found_below _ j z in search rules
 
       go : (s : Bool) → is_symbol k ≡ s → cond s (missing (symbol_of names text (here k n m p l)) (here k n m p l)) None ≡ None →
           number_right (Bound (length names)) k (cond s (numbered_by (symbol_of names text (here k n m p l)) (here k n m p l)) (here k n m p l)).number p l ≡ true
       go true s f = found (symbol_of names text (here k n m p l)) s refl f
-      go false s f = kept_number k t (length names) n p l s e
+      go false s f = search rules
 
   mutual
     unfolding keeps records
@@ -185,15 +150,5 @@ module _ (names : List (List ℕ)) (text : List ℕ) where
     -- and they are a bound query
     pub sheet_query : None ≡ bind_fault names text n sheet → is_query (Bound (length names)) (take n (bound_sheet names text n sheet)) ≡ true
     sheet_query e =
-        let u = fault_none names text n sheet e in
-        ap (λ x. is_query (Bound (length names)) x) first_bound
-        ∙ bound_query (take n sheet) (unbound_none names text (take n sheet) u) (sym (unbound_known names text (take n sheet) u))
-
-  -- a sheet that was bound has a bound query
-  pub sheet_bound : (s : ReadShape) (before after : List Node) → is_ok (bind_answer s (bind_fault names text s.records before)) ≡ true →
-      after ≡ bind_sheet (bind_fault names text s.records before) names text s.records before → is_query (Bound (length names)) (take s.records after) ≡ true
-  sheet_bound s before after ok e = go (bind_fault names text s.records before) refl ok e
-    where
-      go : (o : Option BindFault) → o ≡ bind_fault names text s.records before → is_ok (bind_answer s o) ≡ true → after ≡ bind_sheet o names text s.records before → is_query (Bound (length names)) (take s.records after) ≡ true
-      go None z ok e = ap (λ xs. is_query (Bound (length names)) (take s.records xs)) e ∙ sheet_query s.records before z
-      go (Some f) z ok e = absurd (false≢true ok)
+        let u = sound_parts (ltb (length sheet) 64) (is_query (Read (length text)) (take n sheet)) (unknown names text (take n sheet)) e in
+        ap (λ x. is_query (Bound (length names)) x) first_bound ∙ bound_query (take n sheet) u.0 u.1

@@ -1,7 +1,5 @@
-mod Firsts
 mod Padding
 mod Promised
-mod Names
 mod Bound
 mod Rereading
 mod Written

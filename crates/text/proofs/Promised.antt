@@ -161,9 +161,12 @@ module _ (text : List ℕ) (before : List Node) where
   found_parsed : 64 ≤ length before → found ≡ parsed text
   found_parsed h = cond-false _ _ _ (le-ltb (length before) 64 h)
 
-  -- a text that is not read leaves a sheet of blanks
-  pub blank_left : (f : ReadFault) → 64 ≤ length before → parsed text ≡ Err f → padded [] (length before) ≡ left_in found before
-  blank_left f h e = go f (found_parsed h ∙ e) ∙ sym (ap (λ x. left_in x before) (found_parsed h ∙ e))
+  -- what is answered and left where there is room
+  pub of_read : (S : State) → 64 ≤ length before → parsed text ≡ Ok S → Of (answered (Ok S)) (padded S.out (length before))
+  of_read S h e = of (Ok S) _ _ (found_parsed h ∙ e) refl refl
+
+  pub of_refused : (f : ReadFault) → 64 ≤ length before → parsed text ≡ Err f → Of (Err f) (padded [] (length before))
+  of_refused f h e = of (Err f) _ _ (found_parsed h ∙ e) refl (go f (found_parsed h ∙ e))
     where
       go : (g : ReadFault) → found ≡ Err g → padded [] (length before) ≡ refused_sheet g before
       go Sheet e = absurd (let w = (subst RightFor e found_right).0 in omega arith)

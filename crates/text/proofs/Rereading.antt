@@ -1,14 +1,14 @@
 -- The text of a bound query, read and bound again, gives an equal query.
-use Rattle.std.proofs.Common.{◌≡◌, ℕ, zero, suc, ◌+◌, ◌/◌, ◌%◌, ◌<◌, ◌≤◌, max, Bool, true, false, cond, not, ◌&&◌, ◌||◌, ltb, leb, List, [], ◌∷◌, ◌++◌, length, get_or, take, drop, Some, None, sym, refl, ap, ◌∙◌, subst, ap₂, inl, inr, append_assoc, append-nil, arith}
+use Rattle.std.proofs.Common.{◌≡◌, ℕ, zero, suc, ◌+◌, ◌/◌, ◌%◌, ◌<◌, ◌≤◌, max, Bool, true, false, cond, not, ◌&&◌, ◌||◌, ltb, leb, List, [], ◌∷◌, ◌++◌, length, get_or, take, drop, Some, None, sym, refl, ap, ◌∙◌, subst, ap₂, inl, inr, rules, append_assoc, append-nil, arith}
 use Rattle.std.specs.Str.{bytes_eq}
 use Rattle.std.proofs.lemmas.Slice.Eq.{bytes_eq-Decides}
 use Rattle.std.proofs.lemmas.List.{length-append, take_at, drop_at}
-use Rattle.std.proofs.lemmas.Bool.{cases_lt, and_parts, and_from, cond-true, cond-false, lt-ltb, le-ltb, ltb-true, leb-true, le-leb, eqb-true, eq-eqb, ne_eqb, not-true, or_parts, both_ways, false≢true}
+use Rattle.std.proofs.lemmas.Bool.{cases_lt, and_parts, and_from, cond-true, cond-false, lt-ltb, le-ltb, leb-true, eq-eqb, ne_eqb, not-true, or_parts, both_ways}
 use Rattle.alphabet.proofs.Distinct.{named_found}
 use Rattle.alphabet.specs.Every.{every}
 use Rattle.alphabet.specs.Names.{index_of, all_distinct, is_letter, is_among, operator_words, may_name}
 use Rattle.query.specs.declared.node.Kind.{Kind}
-use Rattle.query.specs.declared.node.Kind.TheVariants.{Symbol, Any, Concat, Exact, Atleast, Atmost, In, Precisely, Noless, Nomore, And, Or, Inorder}
+use Rattle.query.specs.declared.node.Kind.TheVariants.{Symbol}
 use Rattle.query.specs.declared.node.Node.{Node}
 use Rattle.query.specs.declared.node.Role.{Role}
 use Rattle.query.proofs.Alike.{same_kind_refl}
@@ -31,51 +31,15 @@ use Rattle.text.specs.Written.{ReadsBack}
 use Rattle.writer.specs.Writing.{numeral, number_text, head_text, text_of, parts_text}
 
 word_letters : (k : Kind) → letters (operator_word k) ≡ true
-word_letters Symbol = refl
-word_letters Any = refl
-word_letters Concat = refl
-word_letters Exact = refl
-word_letters Atleast = refl
-word_letters Atmost = refl
-word_letters In = refl
-word_letters Precisely = refl
-word_letters Noless = refl
-word_letters Nomore = refl
-word_letters And = refl
-word_letters Or = refl
-word_letters Inorder = refl
+word_letters k = search rules
 
 word_some : (k : Kind) → is_symbol k ≡ false → 0 < length (operator_word k)
-word_some Symbol e = absurd (false≢true (sym e))
-word_some Any e = omega arith
-word_some Concat e = omega arith
-word_some Exact e = omega arith
-word_some Atleast e = omega arith
-word_some Atmost e = omega arith
-word_some In e = omega arith
-word_some Precisely e = omega arith
-word_some Noless e = omega arith
-word_some Nomore e = omega arith
-word_some And e = omega arith
-word_some Or e = omega arith
-word_some Inorder e = omega arith
+word_some k e = search rules
 
 -- each operator is named by its own word
 word_names : (k : Kind) → is_symbol k ≡ false → kind_named (operator_word k) ≡ k
 unfolding kind_named
-word_names Symbol e = absurd (false≢true (sym e))
-word_names Any e = refl
-word_names Concat e = refl
-word_names Exact e = refl
-word_names Atleast e = refl
-word_names Atmost e = refl
-word_names In e = refl
-word_names Precisely e = refl
-word_names Noless e = refl
-word_names Nomore e = refl
-word_names And e = refl
-word_names Or e = refl
-word_names Inorder e = refl
+word_names k e = search rules
 
 -- the digits of a number stand for it, without an extra zero
 numeral_natural : (n : ℕ) → n ≤ 255 → (natural (numeral n) ≡ n) × (extra_zero (numeral n) ≡ false) × Digits (numeral n) × (0 < length (numeral n))
@@ -189,49 +153,13 @@ parts_parted ns none bs = refl
 parts_parted ns (more q qs) bs = refl
 
 small_number : (k : Kind) (m n p l : ℕ) → is_symbol k ≡ false → number_right (Bound m) k n p l ≡ true → n ≤ 255
-small_number Symbol m n p l s e = absurd (false≢true (sym s))
-small_number Any m n p l s e = let z = eqb-true n 0 e in omega arith
-small_number Concat m n p l s e = let z = eqb-true n 0 e in omega arith
-small_number Exact m n p l s e = leb-true n 255 e
-small_number Atleast m n p l s e = leb-true n 255 e
-small_number Atmost m n p l s e = leb-true n 255 e
-small_number In m n p l s e = leb-true n 255 (and_parts (ltb 0 n) (leb n 255) e).1
-small_number Precisely m n p l s e = leb-true n 255 e
-small_number Noless m n p l s e = leb-true n 255 e
-small_number Nomore m n p l s e = leb-true n 255 e
-small_number And m n p l s e = let z = eqb-true n 0 e in omega arith
-small_number Or m n p l s e = let z = eqb-true n 0 e in omega arith
-small_number Inorder m n p l s e = let z = eqb-true n 0 e in omega arith
+small_number k m n p l s e = search rules
 
 symbol_bound : (k : Kind) (m n p l : ℕ) → is_symbol k ≡ true → number_right (Bound m) k n p l ≡ true → n < m
-symbol_bound Symbol m n p l s e = ltb-true n m e
-symbol_bound Any m n p l s e = absurd (false≢true s)
-symbol_bound Concat m n p l s e = absurd (false≢true s)
-symbol_bound Exact m n p l s e = absurd (false≢true s)
-symbol_bound Atleast m n p l s e = absurd (false≢true s)
-symbol_bound Atmost m n p l s e = absurd (false≢true s)
-symbol_bound In m n p l s e = absurd (false≢true s)
-symbol_bound Precisely m n p l s e = absurd (false≢true s)
-symbol_bound Noless m n p l s e = absurd (false≢true s)
-symbol_bound Nomore m n p l s e = absurd (false≢true s)
-symbol_bound And m n p l s e = absurd (false≢true s)
-symbol_bound Or m n p l s e = absurd (false≢true s)
-symbol_bound Inorder m n p l s e = absurd (false≢true s)
+symbol_bound k m n p l s e = search rules
 
 is_symbol_is : (k : Kind) → is_symbol k ≡ true → k ≡ Symbol
-is_symbol_is Symbol e = refl
-is_symbol_is Any e = absurd (false≢true e)
-is_symbol_is Concat e = absurd (false≢true e)
-is_symbol_is Exact e = absurd (false≢true e)
-is_symbol_is Atleast e = absurd (false≢true e)
-is_symbol_is Atmost e = absurd (false≢true e)
-is_symbol_is In e = absurd (false≢true e)
-is_symbol_is Precisely e = absurd (false≢true e)
-is_symbol_is Noless e = absurd (false≢true e)
-is_symbol_is Nomore e = absurd (false≢true e)
-is_symbol_is And e = absurd (false≢true e)
-is_symbol_is Or e = absurd (false≢true e)
-is_symbol_is Inorder e = absurd (false≢true e)
+is_symbol_is k e = search rules
 
 record Kept (m : ℕ) (r : Role) (k : Kind) (n p l : ℕ) (qs : Queries) : Type 0 where
   allowed : allows r k ≡ true
@@ -257,34 +185,10 @@ spell_operator k n p l qs ws s = cond-false (is_symbol k) _ _ s
 
 symbol_keeps : (k : Kind) (p l t : ℕ) (r : Role) → is_symbol k ≡ true → allows r k ≡ true → p + l ≤ t → keeps (Read t) r (node k 255 p l none) ≡ true
 unfolding keeps
-symbol_keeps Symbol p l t r s a h = and_from _ _ (and_from _ _ a (and_from _ _ refl (and_from _ _ refl (le-leb (p + l) t h)))) refl
-symbol_keeps Any p l t r s a h = absurd (false≢true s)
-symbol_keeps Concat p l t r s a h = absurd (false≢true s)
-symbol_keeps Exact p l t r s a h = absurd (false≢true s)
-symbol_keeps Atleast p l t r s a h = absurd (false≢true s)
-symbol_keeps Atmost p l t r s a h = absurd (false≢true s)
-symbol_keeps In p l t r s a h = absurd (false≢true s)
-symbol_keeps Precisely p l t r s a h = absurd (false≢true s)
-symbol_keeps Noless p l t r s a h = absurd (false≢true s)
-symbol_keeps Nomore p l t r s a h = absurd (false≢true s)
-symbol_keeps And p l t r s a h = absurd (false≢true s)
-symbol_keeps Or p l t r s a h = absurd (false≢true s)
-symbol_keeps Inorder p l t r s a h = absurd (false≢true s)
+symbol_keeps k p l t r s a h = search rules
 
 read_number : (k : Kind) (m t n o l p j : ℕ) → is_symbol k ≡ false → number_right (Bound m) k n o l ≡ true → number_right (Read t) k n p j ≡ true
-read_number Symbol m t n o l p j s e = absurd (false≢true (sym s))
-read_number Any m t n o l p j s e = e
-read_number Concat m t n o l p j s e = e
-read_number Exact m t n o l p j s e = e
-read_number Atleast m t n o l p j s e = e
-read_number Atmost m t n o l p j s e = e
-read_number In m t n o l p j s e = e
-read_number Precisely m t n o l p j s e = e
-read_number Noless m t n o l p j s e = e
-read_number Nomore m t n o l p j s e = e
-read_number And m t n o l p j s e = e
-read_number Or m t n o l p j s e = e
-read_number Inorder m t n o l p j s e = e
+read_number k m t n o l p j s e = search rules
 
 abbrev sym_node : Kind → ℕ → ℕ → Node
 sym_node k p l = record { kind = k; number = 255; parts = 0; place = p; length = l }

@@ -1,15 +1,15 @@
 -- The records of a bound query are written as its text, or refused.
-use Rattle.std.proofs.Common.{◌≡◌, ℕ, ◌≤◌, Bool, true, false, cond, ltb, leb, List, [], length, take, Some, None, Ok, Err, sym, refl, ap, ◌∙◌, subst, ap₂, zero-add, arith}
+use Rattle.std.proofs.Common.{◌≡◌, ℕ, ◌≤◌, true, leb, List, [], length, take, None, Ok, sym, refl, ap, ◌∙◌, subst, ap₂, zero-add, arith}
+use Rattle.std.proofs.lemmas.Grind.{common_steps}
 use Rattle.std.proofs.lemmas.List.{take_at}
 use Rattle.alphabet.specs.Every.{every}
 use Rattle.alphabet.specs.Names.{all_distinct, may_name}
-use Rattle.std.proofs.lemmas.Bool.{and_parts, leb-true, ltb-false}
+use Rattle.std.proofs.lemmas.Bool.{and_parts, leb-true}
 use Rattle.query.specs.declared.node.Node.{Node}
 use Rattle.query.specs.declared.node.Stage.{Stage}
 use Rattle.query.specs.declared.node.Stage.TheVariants.{Bound}
 use Rattle.query.specs.Stands.{is_query, query_in}
 use Rattle.query.proofs.Standing.{is_query_sound}
-use Rattle.text.specs.declared.fault.WriteFault.TheVariants.{Sheet, Buffer, Records}
 use Rattle.writer.specs.Writing.{text_of, put_at, Wrote}
 use Rattle.writer.specs.Laying.{laid}
 use Rattle.text.specs.Written.{write_fault, unless, write_answer, ReadsBack}
@@ -22,36 +22,31 @@ query_few s xs e = leb-true (length xs) 64 (and_parts (leb (length xs) 64) _ e).
 
 -- the answer is the refusal where there is one, else the length of the text
 pub write_answer_unless : (names : List (List ℕ)) (xs : List Node) (sheet buffer : ℕ) → write_answer names xs sheet buffer ≡ unless (write_fault names xs sheet buffer) (length (text_of names (query_in xs)))
-write_answer_unless names xs sheet buffer = go (ltb sheet 64) (ltb buffer 4096) (is_query (Bound (length names)) xs)
-  where
-    go : (s b q : Bool) → cond s (Err Sheet) (cond b (Err Buffer) (cond q (Ok (length (text_of names (query_in xs)))) (Err Records))) ≡ unless (cond s (Some Sheet) (cond b (Some Buffer) (cond q None (Some Records)))) (length (text_of names (query_in xs)))
-    go true b q = refl
-    go false true q = refl
-    go false false true = refl
-    go false false false = refl
+write_answer_unless names xs sheet buffer = grind (arith, common_steps)
+
+-- what is answered and written, where nothing is wrong
+pub record Written (names : List (List ℕ)) (xs : List Node) (sheet : ℕ) (before after : List ℕ) (r : ℕ) : Type 0 where
+  pub answer : Ok r ≡ write_answer names xs sheet (length before)
+  pub out : after ≡ put_at before 0 (text_of names (query_in xs))
+  pub back : ReadsBack names (query_in xs) (take r after)
 
 module _ (names : List (List ℕ)) (xs : List Node) (sheet : ℕ) (out : List ℕ) (sound : None ≡ write_fault names xs sheet (length out)) where
   -- what is written is a bound query, and there is room for it
   pub may_write : (is_query (Bound (length names)) xs ≡ true) × (4096 ≤ length out)
-  may_write = go (ltb sheet 64) (ltb (length out) 4096) refl (is_query (Bound (length names)) xs) refl sound
-    where
-      go : (s t : Bool) → ltb (length out) 4096 ≡ t → (q : Bool) → is_query (Bound (length names)) xs ≡ q → None ≡ cond s (Some Sheet) (cond t (Some Buffer) (cond q None (Some Records))) → (is_query (Bound (length names)) xs ≡ true) × (4096 ≤ length out)
-      go true t b q e n = absurd (let z : ◌≡◌ {A = ℕ} 0 1 = cc in omega arith)
-      go false true b q e n = absurd (let z : ◌≡◌ {A = ℕ} 0 1 = cc in omega arith)
-      go false false b true e n = (e, ltb-false (length out) 4096 b)
-      go false false b false e n = absurd (let z : ◌≡◌ {A = ℕ} 0 1 = cc in omega arith)
+  may_write = (grind (arith, common_steps), grind (arith, common_steps))
 
   -- the text of the query is written, and reads back
   pub written : (after : List ℕ) (r : ℕ) → Wrote out 0 (laid names [] xs) after r → every may_name names ≡ true → all_distinct names ≡ true → r ≤ 1152 →
-      (Ok r ≡ write_answer names xs sheet (length out)) × (after ≡ put_at out 0 (text_of names (query_in xs))) × ReadsBack names (query_in xs) (take r after)
+      Written names xs sheet out after r
   written after r w may apart short =
       let q = may_write.0 in
       let text = text_of names (query_in xs) in
       let t : laid names [] xs ≡ text = laid_query names (Bound (length names)) xs q in
       let long : r ≡ length text = w.ends ∙ zero-add _ ∙ ap length t in
       let holds = w.holds ∙ ap (put_at out 0) t in
-      let same : take r after ≡ text = ap₂ (λ i l. take i l) long holds ∙ take_at text _ (length text) refl in (
-        ap (λ i. Ok i) long ∙ ap (λ o. unless o (length text)) sound ∙ sym (write_answer_unless names xs sheet (length out)),
-        holds,
-        subst (ReadsBack names (query_in xs)) (sym same) (rereads names may apart (query_in xs) (is_query_sound (Bound (length names)) xs q).1 (omega arith)),
-      )
+      let same : take r after ≡ text = ap₂ (λ i l. take i l) long holds ∙ take_at text _ (length text) refl in
+      record {
+        answer = ap (λ i. Ok i) long ∙ ap (λ o. unless o (length text)) sound ∙ sym (write_answer_unless names xs sheet (length out));
+        out = holds;
+        back = subst (ReadsBack names (query_in xs)) (sym same) (rereads names may apart (query_in xs) (is_query_sound (Bound (length names)) xs q).1 (omega arith));
+      }

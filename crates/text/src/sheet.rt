@@ -15,5 +15,5 @@ pub(crate) fn is_short(sheet: &[Node]) -> bool
 pub(crate) fn first_records(sheet: &[Node], count: usize) -> &[Node]
     ensures { result.now ≡ take count sheet.now }
 {
-    &sheet[0..count.min(sheet.len())]
+    &sheet[..count.min(sheet.len())]
 }
