@@ -8,3 +8,4 @@ pub mod Lettering
 pub mod Numbers
 pub mod Reading
 pub mod Telling
+pub mod Words

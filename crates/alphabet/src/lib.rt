@@ -12,7 +12,7 @@ mod naming;
 mod sheet;
 
 pub use alphabet::Alphabet;
-pub use bounds::{Asked, Bounds};
+pub use bounds::{Asked, Bounds, NotAsked};
 pub use fault::SheetFault;
 pub use naming::{all_right, found_where_named, is_operator};
 pub use sheet::answer_tells;

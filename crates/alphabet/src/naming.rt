@@ -25,23 +25,11 @@ const OPERATORS: [&[u8]; 12] = [
     b"inorder",
 ];
 
-// Whether the word is one of these.
-fn is_among(words: &[&[u8]], word: &[u8]) -> bool
-    ensures { result ≡ isAmong (map (λ x. x.now) words.now) word.now }
-{
-    for known in words {
-        if *known == word {
-            return true;
-        }
-    }
-    false
-}
-
 /// Whether the word is an operator word of the language. Such a word names no symbol.
 pub fn is_operator(word: &[u8]) -> bool
     ensures { result ≡ isAmong operator_words word.now }
 {
-    is_among(&OPERATORS, word)
+    OPERATORS.contains(&word)
 }
 
 impl Name {
@@ -70,12 +58,8 @@ pub(crate) fn index_of(names: &[Name], word: &[u8]) -> Option<u8>
     requires { length names.now ≤ 32 }
     ensures { result ≡ index_of (spellings names.now) word.now }
 {
-    for (j, name) in names.iter().enumerate() {
-        if name.spelled() == word {
-            return Some(j as u8);
-        }
-    }
-    None
+    let at = names.iter().position(|name| name.spelled() == word)?;
+    Some(at as u8)
 }
 
 impl Alphabet {

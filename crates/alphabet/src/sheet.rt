@@ -58,23 +58,14 @@ fn row_field(sheet: &[u8], symbol: u8) -> &[u8]
 fn letters(bytes: &[u8]) -> &[u8]
     ensures { result.now ≡ letters_of bytes.now }
 {
-    for (i, b) in bytes.iter().enumerate() {
-        if !b.is_ascii_alphabetic() {
-            return &bytes[0..i];
-        }
-    }
-    bytes
+    let end = bytes.iter().position(|b| !b.is_ascii_alphabetic());
+    &bytes[..end.unwrap_or(bytes.len())]
 }
 
 fn is_blank(bytes: &[u8]) -> bool
     ensures { result ≡ every is_space bytes.now }
 {
-    for b in bytes {
-        if *b != b' ' {
-            return false;
-        }
-    }
-    true
+    bytes.iter().all(|b| *b == b' ')
 }
 
 // The name in the bytes, where they are letters padded with spaces and no operator word.
@@ -99,20 +90,6 @@ fn number_in(bytes: &[u8]) -> i64
     i64::from_be_bytes(eight)
 }
 
-impl Asked {
-    // What the byte asks for, if anything.
-    fn by(byte: u8) -> Option<Asked>
-        ensures { result ≡ asked_by byte }
-    {
-        match byte {
-            0 => Some(Asked::Anyvalue),
-            1 => Some(Asked::Zero),
-            2 => Some(Asked::Nonzero),
-            _ => None,
-        }
-    }
-}
-
 impl Bounds {
     // Whether the ends are ordered and in range.
     fn are_right(&self) -> bool
@@ -128,8 +105,8 @@ impl Bounds {
     {
         let low = number_in(&row[0..8]);
         let high = number_in(&row[8..16]);
-        let first = Asked::by(row[16])?;
-        let last = Asked::by(row[17])?;
+        let first = Asked::try_from(row[16]).ok()?;
+        let last = Asked::try_from(row[17]).ok()?;
         let bounds = Bounds {
             low,
             high,
