@@ -7,9 +7,11 @@ mod bounds;
 mod carrying;
 mod caseline;
 mod fault;
+mod layout;
 mod name;
 mod naming;
 mod sheet;
+mod symbol;
 
 pub use alphabet::Alphabet;
 pub use bounds::{Asked, Bounds, NotAsked};
