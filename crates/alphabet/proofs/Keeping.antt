@@ -1,7 +1,8 @@
 -- What the fields of an alphabet keep, in plain words.
 use Rattle.std.proofs.Common.{◌≡◌, ℕ, ◌+◌, ◌<◌, true, not, ◌&&◌, leb, List, [], length, get_or, neg_ℤ, Some, Decides, Option, sym, refl, ◌∙◌, arith}
 use lib.Signed.{le_z}
-use Rattle.std.proofs.lemmas.List.{length-take-le}
+use Rattle.fixed.specs.Items.{listed}
+use Rattle.std.proofs.lemmas.List.{length-map}
 use Rattle.std.proofs.lemmas.Bool.{and_from, and_parts, leb-true, le-leb}
 use Rattle.std.proofs.ByRecursion.{Decides-by_and}
 use Rattle.alphabet.specs.declared.bounds.Bounds.{Bounds}
@@ -13,7 +14,6 @@ use Rattle.alphabet.specs.RightAlphabets.{Names, Bounded}
 use Rattle.alphabet.specs.Spelling.{spelling}
 use Rattle.alphabet.specs.Symbols.{names_of, bounds_of}
 use Rattle.alphabet.proofs.Distinct.{found_at}
-use Rattle.alphabet.proofs.Finding.{length_front}
 use Rattle.alphabet.proofs.Telling.{letters_decide, none_decides, leZ_decides}
 
 name_told : (word : List ℕ) → Decides (may_name word) (Names word)
@@ -63,12 +63,13 @@ one_place xs d i j h k e =
 
 pub all_right : AllRight
 all_right a =
-    let long = length_front spelling a.names a.count (omega arith) in
-    let rows = length-take-le a.count a.rows (omega arith) in
+    let symbols = listed a.symbols in
+    let names : length (names_of a) ≡ length symbols = length-map symbols (λ symbol. spelling symbol.name) in
+    let rows : length (bounds_of a) ≡ length symbols = length-map symbols (λ symbol. symbol.bounds) in
     record {
-      some_symbols = omega arith;
-      few_symbols = omega arith;
-      matched = rows ∙ sym long;
+      some_symbols = omega (arith, a.counted.0);
+      few_symbols = omega (arith, a.counted.1);
+      matched = rows ∙ sym names;
       named = (Decides-by_and may_name Names (every may_name) name_told refl (λ _ _. refl) (names_of a)).0 a.named;
       bounded = (Decides-by_and bounds_right Bounded (every bounds_right) bounds_told refl (λ _ _. refl) (bounds_of a)).0 a.bounded;
       distinct = one_place (names_of a) a.distinct;

@@ -1,4 +1,3 @@
-pub mod Beginning
 pub mod Carried
 pub mod Distinct
 pub mod Fields
@@ -7,4 +6,6 @@ pub mod Keeping
 pub mod Lettering
 pub mod Numbers
 pub mod Reading
+pub mod Rows
 pub mod Telling
+pub mod Words

@@ -1,19 +1,19 @@
 -- Symbols read from a sheet one after another, up to the first fault.
-use Rattle.std.proofs.Common.{◌≡◌, ℕ, zero, suc, ◌+◌, ◌-◌, ◌<◌, ◌≤◌, Bool, true, false, cond, not, ◌&&◌, leb, List, [], ◌∷◌, ◌++◌, length, get_or, take, drop, set, ℤ, is_some, Some, None, Err, Option, sym, refl, ap, ◌∙◌, ap₂, add-zero, add-suc, add-one, arith}
+use Rattle.std.proofs.Common.{◌≡◌, ℕ, zero, suc, ◌+◌, ◌-◌, ◌<◌, ◌≤◌, Bool, true, false, cond, not, ◌&&◌, leb, List, [], ◌∷◌, ◌++◌, length, get_or, take, drop, ℤ, is_some, Some, None, Err, Option, sym, refl, ap, ◌∙◌, ap₂, add-zero, add-suc, add-one, arith}
 use Rattle.std.specs.Option.{option_to_list}
-use Rattle.std.proofs.lemmas.List.{length-set, take_more_set, map-append}
+use Rattle.std.proofs.lemmas.List.{length-append, map-append}
 use Rattle.std.proofs.lemmas.Bool.{cond-true, cond-false, and_from, and_parts, and_right, not-true, not_from_true, not_from_false, le-leb, both_ways}
 use Rattle.alphabet.specs.declared.bounds.Asked.{Asked}
 use Rattle.alphabet.specs.declared.bounds.Bounds.{Bounds}
 use Rattle.alphabet.specs.declared.fault.SheetFault.{SheetFault}
 use Rattle.alphabet.specs.declared.fault.SheetFault.TheVariants.{BadLayout, BadName, BadRow}
-use Rattle.alphabet.specs.declared.name.Name.{Name}
+use Rattle.alphabet.specs.declared.symbol.Symbol.{Symbol}
 use Rattle.alphabet.specs.Carrying.{bounds_right}
 use Rattle.alphabet.specs.Every.{every}
 use Rattle.alphabet.specs.Names.{is_letter, is_among, index_of, may_name, all_distinct, operator_words}
 use Rattle.alphabet.specs.RightSheets.{LaidOut}
 use Rattle.alphabet.specs.Sheets.{symbols_said, name_field, letters_of, is_space, well_formed, name_in, sheet_name, sheet_names, name_right, bounds_asking, asked_by, row_field, sheet_row, sheet_rows, symbol_fault, or_else, first_fault, unless, load_answer, layout_right, number_in}
-use Rattle.alphabet.specs.Spelling.{spelling, spellings}
+use Rattle.alphabet.specs.Spelling.{spelling, spellings, bounds_in}
 use Rattle.alphabet.proofs.Distinct.{distinct_push}
 use Rattle.alphabet.proofs.Fields.{length_name}
 use Rattle.alphabet.proofs.Finding.{some_among}
@@ -89,25 +89,24 @@ module _ (s : List ℕ) (n : ℕ) (h : n < symbols_said s) (clear : first_fault 
       ∙ cond-false (is_some (sheet_row s n)) None (Some (BadRow n)) e)
 
 -- The symbols below n were read, and have no fault.
-pub record Read (s : List ℕ) (n : ℕ) (names : List Name) (rows : List Bounds) : Type 0 where
-  pub all_names : length names ≡ 32
-  pub all_rows : length rows ≡ 32
-  pub words : spellings (take n names) ≡ sheet_names s n
-  pub bounds : take n rows ≡ sheet_rows s n
+pub record Read (s : List ℕ) (n : ℕ) (symbols : List Symbol) : Type 0 where
+  pub count : length symbols ≡ n
+  pub words : spellings symbols ≡ sheet_names s n
+  pub bounds : bounds_in symbols ≡ sheet_rows s n
   pub clear : first_fault s n ≡ None
 
-pub read_more : (s : List ℕ) (n : ℕ) (names : List Name) (rows : List Bounds) → Read s n names rows → n < 32
-    → (name : Name) (row : Bounds) → name_right s n ≡ true → spelling name ≡ sheet_name s n → Some row ≡ sheet_row s n
-    → Read s (n + 1) (set names n name) (set rows n row)
-read_more s n names rows r h name row right spelt is =
+pub read_more : (s : List ℕ) (n : ℕ) (symbols : List Symbol) → Read s n symbols
+    → (symbol : Symbol) → name_right s n ≡ true → spelling symbol.name ≡ sheet_name s n → Some symbol.bounds ≡ sheet_row s n
+    → Read s (n + 1) (symbols ++ symbol ∷ [])
+read_more s n symbols r symbol right spelt is =
     record {
-      all_names = length-set names n name ∙ r.all_names;
-      all_rows = length-set rows n row ∙ r.all_rows;
+      count = length-append symbols (symbol ∷ []) ∙ omega (arith, r.count);
       words =
-          ap spellings (take_more_set names n name (omega arith)) ∙ map-append spelling (take n names) (name ∷ [])
+          map-append (λ x. spelling x.name) symbols (symbol ∷ [])
           ∙ ap₂ (λ xs x. xs ++ x ∷ []) r.words spelt ∙ sym (ap (sheet_names s) (add-one n));
       bounds =
-          take_more_set rows n row (omega arith) ∙ ap₂ (λ xs o. xs ++ option_to_list o) r.bounds is ∙ sym (ap (sheet_rows s) (add-one n));
+          map-append (λ x. x.bounds) symbols (symbol ∷ [])
+          ∙ ap₂ (λ xs o. xs ++ option_to_list o) r.bounds is ∙ sym (ap (sheet_rows s) (add-one n));
       clear =
           ap (first_fault s) (add-one n) ∙ ap (λ o. or_else o (symbol_fault s n)) r.clear
           ∙ cond-true (name_right s n) (cond (is_some (sheet_row s n)) None (Some (BadRow n))) (Some (BadName n)) right

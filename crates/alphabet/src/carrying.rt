@@ -37,10 +37,10 @@ impl Alphabet {
         let rank = first.rank_to(last);
         let first_zero = first.is_zero();
         let last_zero = last.is_zero();
-        let rows = &self.rows[0..self.count as usize];
+        let symbols = self.symbols.as_slice();
         let mut word = 0u32;
-        for (j, row) in rows.iter().enumerate() {
-            if row.carried(rank, first_zero, last_zero) {
+        for (j, symbol) in symbols.iter().enumerate() {
+            if symbol.bounds.carried(rank, first_zero, last_zero) {
                 word |= 1 << j;
             }
         }

@@ -5,52 +5,79 @@ ghost use Rattle.alphabet.specs.CaseAlphabet.{case_names, case_bounds};
 ghost use Rattle.alphabet.specs.Symbols.{names_of, bounds_of};
 
 use crate::name::Name;
+use crate::symbol::Symbol;
 use crate::{Alphabet, Asked, Bounds};
+use fixed::List;
 
-const BOUNDS: [Bounds; 8] = [
-    Bounds {
-        low: 5,
-        high: 19,
-        ..Bounds::LEVEL
-    },
-    Bounds {
-        low: 20,
-        high: 100,
-        ..Bounds::LEVEL
-    },
-    Bounds {
-        low: -19,
-        high: -5,
-        ..Bounds::LEVEL
-    },
-    Bounds {
-        low: -100,
-        high: -19,
-        ..Bounds::LEVEL
-    },
-    Bounds {
-        low: 0,
-        high: 100,
-        first: Asked::Zero,
-        last: Asked::Nonzero,
-    },
-    Bounds {
-        low: -100,
-        high: 0,
-        first: Asked::Nonzero,
-        last: Asked::Zero,
-    },
-    Bounds {
-        low: -4,
-        high: 4,
-        ..Bounds::LEVEL
-    },
-    Bounds {
-        low: 0,
-        high: 0,
-        first: Asked::Zero,
-        last: Asked::Zero,
-    },
+// Each symbol's name and bounds.
+const SYMBOLS: [(&[u8], Bounds); 8] = [
+    (
+        b"up",
+        Bounds {
+            low: 5,
+            high: 19,
+            ..Bounds::LEVEL
+        },
+    ),
+    (
+        b"Up",
+        Bounds {
+            low: 20,
+            high: 100,
+            ..Bounds::LEVEL
+        },
+    ),
+    (
+        b"down",
+        Bounds {
+            low: -19,
+            high: -5,
+            ..Bounds::LEVEL
+        },
+    ),
+    (
+        b"Down",
+        Bounds {
+            low: -100,
+            high: -19,
+            ..Bounds::LEVEL
+        },
+    ),
+    (
+        b"appears",
+        Bounds {
+            low: 0,
+            high: 100,
+            first: Asked::Zero,
+            last: Asked::Nonzero,
+        },
+    ),
+    (
+        b"disappears",
+        Bounds {
+            low: -100,
+            high: 0,
+            first: Asked::Nonzero,
+            last: Asked::Zero,
+        },
+    ),
+    (
+        b"stable",
+        Bounds {
+            low: -4,
+            high: 4,
+            ..Bounds::LEVEL
+        },
+    ),
+    (
+        b"zero",
+        Bounds {
+            low: 0,
+            high: 0,
+            first: Asked::Zero,
+            last: Asked::Zero,
+        },
+    ),
 ];
 
 impl Alphabet {
@@ -59,21 +86,13 @@ impl Alphabet {
         ensures names { names_of result ≡ case_names }
         ensures bounds { bounds_of result ≡ case_bounds }
     {
-        let mut names = [Name::of(b""); 32];
-        names[0] = Name::of(b"up");
-        names[1] = Name::of(b"Up");
-        names[2] = Name::of(b"down");
-        names[3] = Name::of(b"Down");
-        names[4] = Name::of(b"appears");
-        names[5] = Name::of(b"disappears");
-        names[6] = Name::of(b"stable");
-        names[7] = Name::of(b"zero");
-        let mut rows = [Bounds::LEVEL; 32];
-        rows[0..8].copy_from_slice(&BOUNDS);
-        Alphabet {
-            count: 8,
-            names,
-            rows,
+        let mut symbols = List::new(Symbol::blank());
+        for (name, bounds) in SYMBOLS {
+            symbols.push(Symbol {
+                name: Name::of(name),
+                bounds,
+            });
         }
+        Alphabet { symbols }
     }
 }

@@ -1,7 +1,8 @@
 //! Why a sheet is refused.
 
-ghost use Rattle.std.specs.Prelude.{◌≡◌};
-ghost use Rattle.alphabet.specs.Refusals.{number as number_of, returned as returnedOf};
+ghost use Rattle.alphabet.specs.Refusals.{number as number_of, returned as returned_of};
+
+use refusal::Refusal;
 
 #[derive(Clone, Copy, PartialEq, Eq, Debug)]
 pub enum SheetFault {
@@ -13,11 +14,12 @@ pub enum SheetFault {
     BadRow { symbol: u8 },
 }
 
-impl SheetFault {
-    /// The refusal's number.
-    pub fn number(self) -> u8
-        ensures { result ≡ number_of self }
-    {
+impl Refusal for SheetFault {
+    ghost number = { number_of };
+
+    ghost returned = { returned_of };
+
+    fn number(&self) -> u8 {
         match self {
             SheetFault::BadLayout => 7,
             SheetFault::BadName { .. } => 8,
@@ -25,14 +27,11 @@ impl SheetFault {
         }
     }
 
-    /// The value that is returned with the number.
-    pub fn returned(self) -> usize
-        ensures { result ≡ returnedOf self }
-    {
+    fn returned(&self) -> usize {
         match self {
             SheetFault::BadLayout => 0,
-            SheetFault::BadName { symbol } => symbol as usize,
-            SheetFault::BadRow { symbol } => symbol as usize,
+            SheetFault::BadName { symbol } => *symbol as usize,
+            SheetFault::BadRow { symbol } => *symbol as usize,
         }
     }
 }

@@ -1,12 +1,9 @@
 //! The letters of a name.
 
-ghost use Rattle.std.specs.Prelude.{◌≡◌, ◌≤◌, length as size};
+use fixed::List;
 
-/// A word of at most sixteen bytes, kept at the front of an array.
+/// A word of at most sixteen bytes.
 #[derive(Clone, Copy)]
 pub struct Name {
-    pub(crate) letters: [u8; 16],
-    pub(crate) length: u8,
-    ghost whole: { size letters ≡ 16 },
-    ghost fits: { length ≤ 16 },
+    pub(crate) letters: List<u8, 16>,
 }

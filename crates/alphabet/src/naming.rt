@@ -7,8 +7,10 @@ ghost use Rattle.alphabet.specs.Names.{is_among as isAmong, operator_words, inde
 ghost use Rattle.alphabet.specs.Spelling.{spelling, spellings};
 ghost use Rattle.alphabet.specs.Symbols.{names_of, bounds_of};
 
-use crate::Alphabet;
 use crate::name::Name;
+use crate::symbol::Symbol;
+use crate::{Alphabet, Bounds};
+use fixed::List;
 
 const OPERATORS: [&[u8]; 12] = [
     b"any",
@@ -25,23 +27,11 @@ const OPERATORS: [&[u8]; 12] = [
     b"inorder",
 ];
 
-// Whether the word is one of these.
-fn is_among(words: &[&[u8]], word: &[u8]) -> bool
-    ensures { result ≡ isAmong (map (λ x. x.now) words.now) word.now }
-{
-    for known in words {
-        if *known == word {
-            return true;
-        }
-    }
-    false
-}
-
 /// Whether the word is an operator word of the language. Such a word names no symbol.
 pub fn is_operator(word: &[u8]) -> bool
     ensures { result ≡ isAmong operator_words word.now }
 {
-    is_among(&OPERATORS, word)
+    OPERATORS.contains(&word)
 }
 
 impl Name {
@@ -49,33 +39,40 @@ impl Name {
     pub(crate) fn of(word: &[u8]) -> Name
         ensures { spelling result ≡ take 16 word.now }
     {
-        let length = word.len().min(16);
-        let mut letters = [0; 16];
-        letters[0..length].copy_from_slice(&word[0..length]);
-        Name {
-            letters,
-            length: length as u8,
+        let front = &word[..word.len().min(16)];
+        let mut letters = List::new(0);
+        for letter in front {
+            letters.push(*letter);
         }
+        Name { letters }
     }
 
     pub(crate) fn spelled(&self) -> &[u8]
         ensures { result.now ≡ spelling self.now }
     {
-        &self.letters[0..self.length as usize]
+        self.letters.as_slice()
     }
 }
 
-// The index of the word among the names.
-pub(crate) fn index_of(names: &[Name], word: &[u8]) -> Option<u8>
-    requires { length names.now ≤ 32 }
-    ensures { result ≡ index_of (spellings names.now) word.now }
-{
-    for (j, name) in names.iter().enumerate() {
-        if name.spelled() == word {
-            return Some(j as u8);
+impl Symbol {
+    // A symbol with no letters, which fills the places of a list that are free.
+    pub(crate) fn blank() -> Symbol {
+        Symbol {
+            name: Name::of(b""),
+            bounds: Bounds::LEVEL,
         }
     }
-    None
+}
+
+// The index of the symbol of this name.
+pub(crate) fn index_of(symbols: &[Symbol], word: &[u8]) -> Option<u8>
+    requires { length symbols.now ≤ 32 }
+    ensures { result ≡ index_of (spellings symbols.now) word.now }
+{
+    let at = symbols
+        .iter()
+        .position(|symbol| symbol.name.spelled() == word)?;
+    Some(at as u8)
 }
 
 impl Alphabet {
@@ -85,25 +82,22 @@ impl Alphabet {
         ensures rows { result ≡ length (bounds_of self.now) }
         ensures few { (1 ≤ result) × (result ≤ 32) }
     {
-        self.count
+        self.symbols.len() as u8
     }
 
     /// The symbol of this name.
     pub fn find(&self, name: &[u8]) -> Option<u8>
         ensures { result ≡ index_of (names_of self.now) name.now }
     {
-        index_of(&self.names[0..self.count as usize], name)
+        index_of(self.symbols.as_slice(), name)
     }
 
     /// The letters of the symbol's name.
     pub fn name(&self, symbol: u8) -> Option<&[u8]>
         ensures { option_map (λ x. x.now) result ≡ name_at (names_of self.now) symbol }
     {
-        if symbol < self.count {
-            Some(self.names[symbol as usize].spelled())
-        } else {
-            None
-        }
+        let symbol = self.symbols.as_slice().get(symbol as usize)?;
+        Some(symbol.name.spelled())
     }
 }
 

@@ -8,13 +8,16 @@ ghost use Rattle.alphabet.specs.RightSheets.{AnswerTells};
 ghost use Rattle.alphabet.specs.Sheets.{layout_right, symbols_said, name_field as nameField, row_field as rowField};
 ghost use Rattle.alphabet.specs.Sheets.{letters_of, is_space, name_in as nameIn};
 ghost use Rattle.alphabet.specs.Sheets.{number_in, asked_by, row_bounds};
-ghost use Rattle.alphabet.specs.Sheets.{sheet_name, sheet_names, name_right, load_answer};
+ghost use Rattle.alphabet.specs.Sheets.{sheet_name, sheet_names, sheet_row, name_right, load_answer};
 ghost use Rattle.alphabet.specs.Spelling.{spelling, spellings};
 ghost use Rattle.alphabet.specs.Symbols.{Spells, Reads};
 
+use crate::layout::Layout;
 use crate::name::Name;
 use crate::naming::index_of;
+use crate::symbol::Symbol;
 use crate::{Alphabet, Asked, Bounds, SheetFault, is_operator};
+use fixed::List;
 
 // Whether the numbers at the front are right, and the sheet as long as they ask for.
 fn is_laid_out(sheet: &[u8]) -> bool
@@ -31,50 +34,18 @@ fn is_laid_out(sheet: &[u8]) -> bool
     sheet.len() == 2 + symbols * width + symbols * 18
 }
 
-// The bytes of the symbol's name.
-fn name_field(sheet: &[u8], symbol: u8) -> &[u8]
-    requires laid { layout_right sheet.now ≡ true }
-    requires within { symbol < symbols_said sheet.now }
-    ensures { result.now ≡ nameField sheet.now symbol }
-{
-    let width = sheet[1] as usize;
-    let from = 2 + symbol as usize * width;
-    &sheet[from..from + width]
-}
-
-// The bytes of the symbol's row.
-fn row_field(sheet: &[u8], symbol: u8) -> &[u8]
-    requires laid { layout_right sheet.now ≡ true }
-    requires within { symbol < symbols_said sheet.now }
-    ensures value { result.now ≡ rowField sheet.now symbol }
-    ensures long { length result.now ≡ 18 }
-{
-    let rows = 2 + sheet[0] as usize * sheet[1] as usize;
-    let from = rows + symbol as usize * 18;
-    &sheet[from..from + 18]
-}
-
 // The letters that the bytes begin with.
 fn letters(bytes: &[u8]) -> &[u8]
     ensures { result.now ≡ letters_of bytes.now }
 {
-    for (i, b) in bytes.iter().enumerate() {
-        if !b.is_ascii_alphabetic() {
-            return &bytes[0..i];
-        }
-    }
-    bytes
+    let end = bytes.iter().position(|b| !b.is_ascii_alphabetic());
+    &bytes[..end.unwrap_or(bytes.len())]
 }
 
 fn is_blank(bytes: &[u8]) -> bool
     ensures { result ≡ every is_space bytes.now }
 {
-    for b in bytes {
-        if *b != b' ' {
-            return false;
-        }
-    }
-    true
+    bytes.iter().all(|b| *b == b' ')
 }
 
 // The name in the bytes, where they are letters padded with spaces and no operator word.
@@ -90,27 +61,10 @@ fn name_in(bytes: &[u8]) -> Option<&[u8]>
 }
 
 // The signed number that eight bytes spell, the highest first.
-fn number_in(bytes: &[u8]) -> i64
-    requires { length bytes.now ≡ 8 }
+fn number_in(bytes: &[u8; 8]) -> i64
     ensures { result ≡ number_in bytes.now }
 {
-    let mut eight = [0; 8];
-    eight.copy_from_slice(bytes);
-    i64::from_be_bytes(eight)
-}
-
-impl Asked {
-    // What the byte asks for, if anything.
-    fn by(byte: u8) -> Option<Asked>
-        ensures { result ≡ asked_by byte }
-    {
-        match byte {
-            0 => Some(Asked::Anyvalue),
-            1 => Some(Asked::Zero),
-            2 => Some(Asked::Nonzero),
-            _ => None,
-        }
-    }
+    i64::from_be_bytes(*bytes)
 }
 
 impl Bounds {
@@ -126,61 +80,98 @@ impl Bounds {
         requires { length row.now ≡ 18 }
         ensures { result ≡ row_bounds row.now }
     {
-        let low = number_in(&row[0..8]);
-        let high = number_in(&row[8..16]);
-        let first = Asked::by(row[16])?;
-        let last = Asked::by(row[17])?;
-        let bounds = Bounds {
-            low,
-            high,
-            first,
-            last,
+        let (low, rest) = row.split_first_chunk()?;
+        let (high, rest) = rest.split_first_chunk()?;
+        let [first, last] = rest else {
+            return None;
         };
-        if bounds.are_right() {
-            Some(bounds)
+        let bounds = Bounds {
+            low: number_in(low),
+            high: number_in(high),
+            first: Asked::try_from(*first).ok()?,
+            last: Asked::try_from(*last).ok()?,
+        };
+        bounds.are_right().then_some(bounds)
+    }
+}
+
+impl<'a> Layout<'a> {
+    // The sheet, where its layout is right.
+    fn of(sheet: &'a [u8]) -> Option<Layout<'a>>
+        ensures { option_map (λ l. l.sheet.now) result ≡ (if layout_right sheet.now then Some sheet.now else None) }
+    {
+        if is_laid_out(sheet) {
+            Some(Layout { sheet })
         } else {
             None
         }
     }
-}
 
-// The symbol's name, where it is right. The names of the symbols before it are the earlier ones.
-fn symbol_name(sheet: &[u8], symbol: u8, earlier: &[Name]) -> Option<Name>
-    requires laid { layout_right sheet.now ≡ true }
-    requires within { symbol < symbols_said sheet.now }
-    requires before { spellings earlier.now ≡ sheet_names sheet.now symbol }
-    requires few { length earlier.now ≤ 32 }
-    ensures { option_map spelling result ≡ (if name_right sheet.now symbol then Some (sheet_name sheet.now symbol) else None) }
-{
-    let word = name_in(name_field(sheet, symbol))?;
-    if index_of(earlier, word).is_some() {
-        return None;
+    // How many symbols there are.
+    fn symbols(&self) -> u8
+        ensures { result ≡ symbols_said self.now.sheet.now }
+    {
+        self.sheet[0]
     }
-    Some(Name::of(word))
+
+    // The bytes of the symbol's name.
+    fn name_field(&self, symbol: u8) -> &'a [u8]
+        requires { symbol < symbols_said self.now.sheet.now }
+        ensures { result.now ≡ nameField self.now.sheet.now symbol }
+    {
+        let width = self.sheet[1] as usize;
+        let from = 2 + symbol as usize * width;
+        &self.sheet[from..from + width]
+    }
+
+    // The bytes of the symbol's row.
+    fn row_field(&self, symbol: u8) -> &'a [u8]
+        requires { symbol < symbols_said self.now.sheet.now }
+        ensures value { result.now ≡ rowField self.now.sheet.now symbol }
+        ensures long { length result.now ≡ 18 }
+    {
+        let rows = 2 + self.sheet[0] as usize * self.sheet[1] as usize;
+        let from = rows + symbol as usize * 18;
+        &self.sheet[from..from + 18]
+    }
+
+    // The symbol's name, where it is right. The names of the symbols before it are the earlier ones.
+    fn name(&self, symbol: u8, earlier: &[Symbol]) -> Option<Name>
+        requires within { symbol < symbols_said self.now.sheet.now }
+        requires before { spellings earlier.now ≡ sheet_names self.now.sheet.now symbol }
+        requires few { length earlier.now ≤ 32 }
+        ensures { option_map spelling result ≡ (if name_right self.now.sheet.now symbol then Some (sheet_name self.now.sheet.now symbol) else None) }
+    {
+        let word = name_in(self.name_field(symbol))?;
+        match index_of(earlier, word) {
+            Some(_) => None,
+            None => Some(Name::of(word)),
+        }
+    }
+
+    // The symbol's bounds, where they are right.
+    fn bounds(&self, symbol: u8) -> Option<Bounds>
+        requires { symbol < symbols_said self.now.sheet.now }
+        ensures { result ≡ sheet_row self.now.sheet.now symbol }
+    {
+        Bounds::in_row(self.row_field(symbol))
+    }
 }
 
 // The alphabet that the sheet spells, or the first fault of the sheet.
 fn read_sheet(sheet: &[u8]) -> Result<Alphabet, SheetFault>
     ensures { Reads sheet.now result }
 {
-    if !is_laid_out(sheet) {
-        return Err(SheetFault::BadLayout);
+    let layout = Layout::of(sheet).ok_or(SheetFault::BadLayout)?;
+    let mut symbols = List::new(Symbol::blank());
+    for symbol in 0..layout.symbols() {
+        let name = layout
+            .name(symbol, symbols.as_slice())
+            .ok_or(SheetFault::BadName { symbol })?;
+        let bounds = layout.bounds(symbol).ok_or(SheetFault::BadRow { symbol })?;
+        symbols.push(Symbol { name, bounds });
     }
-    let count = sheet[0];
-    let mut names = [Name::of(b""); 32];
-    let mut rows = [Bounds::LEVEL; 32];
-    for symbol in 0..count {
-        let j = symbol as usize;
-        let Some(name) = symbol_name(sheet, symbol, &names[0..j]) else {
-            return Err(SheetFault::BadName { symbol });
-        };
-        let Some(row) = Bounds::in_row(row_field(sheet, symbol)) else {
-            return Err(SheetFault::BadRow { symbol });
-        };
-        names[j] = name;
-        rows[j] = row;
-    }
-    Ok(Alphabet { count, names, rows })
+    Ok(Alphabet { symbols })
 }
 
 impl Alphabet {

@@ -1,7 +1,8 @@
 //! Why a value is not made.
 
-ghost use Rattle.std.specs.Prelude.{◌≡◌};
-ghost use Rattle.value.specs.Refusals.{number, returned};
+ghost use Rattle.value.specs.Refusals.{number as number_of, returned as returned_of};
+
+use refusal::Refusal;
 
 #[derive(Clone, Copy, Debug, PartialEq, Eq)]
 pub enum ValueFault {
@@ -9,20 +10,18 @@ pub enum ValueFault {
     OutOfRange,
 }
 
-impl ValueFault {
-    /// The refusal's number.
-    pub fn number(self) -> u8
-        ensures { result ≡ number self }
-    {
+impl Refusal for ValueFault {
+    ghost number = { number_of };
+
+    ghost returned = { returned_of };
+
+    fn number(&self) -> u8 {
         match self {
             ValueFault::OutOfRange => 11,
         }
     }
 
-    /// The value that is returned with the number.
-    pub fn returned(self) -> usize
-        ensures { result ≡ returned self }
-    {
+    fn returned(&self) -> usize {
         match self {
             ValueFault::OutOfRange => 0,
         }

@@ -3,4 +3,4 @@ use Rattle.alphabet.proofs.naming.is_operator.Goals as goal
 
 pub returns : goal.returns
 unfolding operator_words
-returns c = c.is_among.ensures
+returns c = c.contains.ensures.value

@@ -1,17 +1,12 @@
-use Rattle.std.proofs.Common.{take, sym, ap, ◌∙◌, arith}
-use Rattle.alphabet.proofs.Lettering.{letters_more, letters_stop, letters_all}
+use Rattle.std.proofs.Common.{length, take, ap, ◌∙◌, rules, tests}
+use Rattle.std.proofs.lemmas.Iterator.{YieldsList-from_slice}
+use Rattle.std.proofs.lemmas.Iterator.Search.{position_from_yields_List}
+use Rattle.std.specs.Option.{unwrap_or}
+use Rattle.alphabet.proofs.Words.{other, cut_at_position}
 use Rattle.alphabet.proofs.sheet.letters.Goals as goal
 
-pub returns-then-not-is_ascii_alphabetic : goal.returns-then-not-is_ascii_alphabetic
-returns-then-not-is_ascii_alphabetic c =
-    ap (λ n. take n c.args.bytes.now) (omega arith)
-    ∙ letters_stop c.args.bytes.now c.loop-i.i c.loop-i.invariant c.loop-i-test.true
-    (sym c.is_ascii_alphabetic.ensures.value ∙ c.if-not-is_ascii_alphabetic.true)
-
-pub loop-i-preserved : goal.loop-i-preserved
-loop-i-preserved c =
-    letters_more c.args.bytes.now c.loop-i.i c.loop-i.invariant c.loop-i-test.true
-    (sym c.is_ascii_alphabetic.ensures.value ∙ c.if-not-is_ascii_alphabetic.false)
-
 pub returns : goal.returns
-returns c = letters_all c.args.bytes.now c.loop-i.i c.loop-i.invariant c.loop-i-test.false
+returns c =
+    let bs = c.args.bytes.now in
+    let end = position_from_yields_List other _ _ c.position-end.result c.position-end.ensures.ran (YieldsList-from_slice bs cc) (λ x b q k. search (rules, tests)) in
+    ap (λ n. take n bs) (c.unwrap_or.ensures ∙ ap (λ o. unwrap_or o (length bs)) end) ∙ cut_at_position bs

@@ -1,29 +1,28 @@
-use Rattle.std.proofs.Common.{length, Some, None, sym, ap, ◌∙◌, arith}
+use Rattle.std.proofs.Common.{length, is_some, Some, None, sym, ap, ◌∙◌, arith}
 use Rattle.std.proofs.lemmas.List.{take_all}
 use Rattle.std.proofs.lemmas.Bool.{cond-true, cond-false}
 use Rattle.alphabet.specs.Sheets.{name_right, sheet_name, sheet_names}
 use Rattle.alphabet.specs.Spelling.{spellings}
-use Rattle.alphabet.proofs.Fields.{layout_decides}
 use Rattle.alphabet.proofs.Reading.{word_is, a_repeat, fresh, name_short, told}
-use Rattle.alphabet.proofs.sheet.symbol_name.Goals as goal
+use Rattle.alphabet.proofs.layout.Layout.name.Goals as goal
 
-pub returns-then-is_some : goal.returns-then-is_some
-returns-then-is_some c =
-    let s = c.args.sheet.now in
+pub returns-in-Some : goal.returns-in-Some
+returns-in-Some c =
+    let s = c.args.self.now.sheet.now in
     let j = c.args.symbol in
     let word = c.in_ok-word.word.now in
-    let known = told (spellings c.args.earlier.now) (sheet_names s j) word c.index_of.result _ c.index_of.ensures c.requires.before (sym c.if-is_some.ensures) in
+    let known = told (spellings c.args.earlier.now) (sheet_names s j) word c.index_of.result _ c.index_of.ensures c.requires.before (ap is_some c.in-Some.is) in
     sym (cond-false (name_right s j) (Some (sheet_name s j)) None
     (a_repeat s j c.name_field.result.now word c.name_field.ensures c.in_ok-word.ensures known))
 
-pub returns : goal.returns
-returns c =
-    let s = c.args.sheet.now in
+pub returns-in-None : goal.returns-in-None
+returns-in-None c =
+    let s = c.args.self.now.sheet.now in
     let j = c.args.symbol in
     let word = c.in_ok-word.word.now in
-    let new = told (spellings c.args.earlier.now) (sheet_names s j) word c.index_of.result _ c.index_of.ensures c.requires.before (sym c.if-is_some.ensures) in
+    let new = told (spellings c.args.earlier.now) (sheet_names s j) word c.index_of.result _ c.index_of.ensures c.requires.before (ap is_some c.in-None.is) in
     let letters = word_is s j c.name_field.result.now word c.name_field.ensures c.in_ok-word.ensures in
-    let short = name_short s ((layout_decides s).0 c.requires.laid) j c.requires.within in
+    let short = name_short s c.args.self.now.laid j c.requires.within in
     ap Some (c.of.ensures ∙ take_all 16 word (omega (arith, ap length letters)) ∙ letters)
     ∙ sym (cond-true (name_right s j) (Some (sheet_name s j)) None
     (fresh s j c.name_field.result.now word c.name_field.ensures c.in_ok-word.ensures new))
