@@ -1,6 +1,6 @@
 -- A row of bytes of one class, step by step, and what a stream begins with.
 use Rattle.std.proofs.Common.{◌≡◌, ℕ, suc, ◌+◌, ◌<◌, ◌≤◌, Bool, true, false, cond, eqb, List, [], ◌∷◌, length, get_or, take, drop, sym, refl, ap, ◌∙◌, add-zero, arith, eq-eqb}
-use Rattle.std.proofs.lemmas.Bool.{eqb-true, ne_eqb, both_ways}
+use Rattle.std.proofs.lemmas.Bool.{eqb-true, both_ways}
 use Rattle.std.proofs.lemmas.List.{at_drop_more, at_drop_all, drop-drop, get_or-drop, length-drop}
 use Rattle.std.proofs.lemmas.List.Folds.{length-prefix_len}
 use Rattle.std.specs.List.{prefix_len}
@@ -21,9 +21,6 @@ back Other = refl
 
 pub same_self : (k c : Class) → c ≡ k → same k c ≡ true
 same_self k c e = eq-eqb (class_number k) (class_number c) (ap class_number (sym e))
-
-pub differ : (k c : Class) → (c ≡ k → ⊥) → same k c ≡ false
-differ k c n = ne_eqb (class_number k) (class_number c) (λ e. n (sym (back c) ∙ ap decode (sym e) ∙ back k))
 
 pub row_prefix : (k : Class) (bs : List ℕ) → prefix_len (λ b. same k (class b)) bs ≡ row k bs
 row_prefix k [] = refl
