@@ -1,15 +1,17 @@
-use Rattle.std.proofs.Common.{drop, ap, arith}
+use Rattle.std.proofs.Common.{get_or, set, ap, ◌∙◌, arith}
 use Rattle.query.specs.Stands.{blank}
-use Rattle.grammar.specs.Machine.{state, numbered}
-use Rattle.parser.proofs.Store.{change_at, change_none}
+use Rattle.fixed.specs.Items.{listed}
+use Rattle.grammar.specs.Machine.{numbered}
+use Rattle.parser.proofs.Store.{change_at, change_past}
 use Rattle.parser.proofs.machine.Machine.put_number.Goals as goal
 
-pub returns-then-at-self : goal.returns-then-at-self
-returns-then-at-self c =
-    let m = c.args.self.now in
-    ap (state m.point (drop m.free m.levels)) (change_at (numbered c.args.number) m.nodes m.count c.args.at blank c.if-at-self.true (omega arith))
+pub returns-then-at-len-clause-nodes : goal.returns-then-at-len-clause-nodes
+returns-then-at-len-clause-nodes c =
+    let xs = listed c.args.self.now.nodes in
+    let at = c.args.at in
+    c.put.ensures
+    ∙ ap (λ ys. set xs at (numbered c.args.number (get_or ys at blank))) c.as_slice.ensures.items
+    ∙ change_at (numbered c.args.number) xs at blank (omega arith)
 
-pub returns-else-at-self : goal.returns-else-at-self
-returns-else-at-self c =
-    let m = c.args.self.now in
-    ap (state m.point (drop m.free m.levels)) (change_none (numbered c.args.number) m.nodes m.count c.args.at (omega arith) c.if-at-self.false)
+pub returns-else-at-len-clause-nodes : goal.returns-else-at-len-clause-nodes
+returns-else-at-len-clause-nodes c = change_past (numbered c.args.number) (listed c.args.self.now.nodes) c.args.at (omega arith)
