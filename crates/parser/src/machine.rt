@@ -2,6 +2,7 @@
 
 ghost use Rattle.std.specs.Prelude.{◌≡◌, ◌+◌, ◌^◌, ◌<◌, false, length};
 ghost use Rattle.query.specs.declared.node.Kind.TheVariants.{Symbol};
+ghost use Rattle.query.specs.declared.node.Node.{Node};
 ghost use Rattle.fixed.specs.Items.{piled, listed};
 ghost use Rattle.words.specs.Words.{lexeme, size, opens, closes, name as nameWord, number as numberWord};
 ghost use Rattle.grammar.specs.Spelling.{is_symbol};
@@ -61,29 +62,17 @@ impl Machine {
         }
     }
 
-    // One part more of a record.
-    fn count_part(&mut self, at: usize)
+    // Changes the record at an index, where there is one.
+    fn change<F: FnOnce(Node) -> Node>(&mut self, at: usize, changed: F)
+        requires { F.IsAlwaysCallable changed }
         ensures point { self.new.point ≡ self.old.point }
         ensures levels { piled self.new.levels ≡ piled self.old.levels }
-        ensures nodes { listed self.new.nodes ≡ change counted (listed self.old.nodes) at }
+        ensures nodes { (f : Node → Node) → ((x y : Node) → F.post changed x y → y ≡ f x) → listed self.new.nodes ≡ change f (listed self.old.nodes) at }
         ensures count { length (listed self.new.nodes) ≡ length (listed self.old.nodes) }
     {
         if at < self.nodes.len() {
             let whole = self.nodes.as_slice()[at];
-            let parts = whole.parts.saturating_add(1);
-            self.nodes.put(at, Node { parts, ..whole });
-        }
-    }
-
-    // The number of a record.
-    fn put_number(&mut self, at: usize, number: u8)
-        ensures point { self.new.point ≡ self.old.point }
-        ensures levels { piled self.new.levels ≡ piled self.old.levels }
-        ensures nodes { listed self.new.nodes ≡ change (numbered number) (listed self.old.nodes) at }
-    {
-        if at < self.nodes.len() {
-            let whole = self.nodes.as_slice()[at];
-            self.nodes.put(at, Node { number, ..whole });
+            self.nodes.put(at, changed(whole));
         }
     }
 
@@ -126,7 +115,10 @@ impl Machine {
         let top = self.inside()?;
         let need = top.need.after_part()?;
         self.levels.turn(Level { need, ..top });
-        self.count_part(top.node);
+        self.change(top.node, |whole| {
+            let parts = whole.parts.saturating_add(1);
+            Node { parts, ..whole }
+        });
         Some(top.kind.part_role())
     }
 
@@ -164,7 +156,7 @@ impl Machine {
             need: Need::One,
             ..top
         });
-        self.put_number(top.node, number);
+        self.change(top.node, |whole| Node { number, ..whole });
         Ok(())
     }
 
