@@ -4,7 +4,6 @@
 
 ghost use Rattle.std.specs.Prelude.{◌≡◌, ◌+◌, ◌-◌, ◌*◌, not, ◌&&◌, ◌==◌};
 ghost use Rattle.grammar.specs.Limits.{is_in};
-ghost use Rattle.std.specs.Str.{bytes_eq};
 ghost use Rattle.grammar.specs.Names.{operator_word, kind_named, extra_zero as extraZero, small_number, at_most_255};
 ghost use Rattle.grammar.specs.Spelling.{takes_number as takesNumber};
 ghost use Rattle.grammar.specs.Machine.{first_need, after_part as afterPart, may_close as mayClose};
@@ -61,12 +60,6 @@ impl Need {
     }
 }
 
-fn same(name: &[u8], word: &[u8]) -> bool
-    ensures { result ≡ bytes_eq name.now word.now }
-{
-    name == word
-}
-
 /// The word of an operator. A symbol has none of its own.
 pub fn word_of(kind: Kind) -> &'static [u8]
     ensures { result.now ≡ operator_word kind }
@@ -93,7 +86,7 @@ pub fn kind_of(name: &[u8]) -> Kind
     ensures { result ≡ kind_named name.now }
 {
     for kind in OPERATORS {
-        if same(name, word_of(kind)) {
+        if name == word_of(kind) {
             return kind;
         }
     }
@@ -103,10 +96,7 @@ pub fn kind_of(name: &[u8]) -> Kind
 fn extra_zero(digits: &[u8]) -> bool
     ensures { result ≡ extraZero digits.now }
 {
-    match digits {
-        [first, _, ..] => *first == b'0',
-        _ => false,
-    }
+    matches!(digits, [b'0', _, ..])
 }
 
 /// Whether the kind goes with a number.
@@ -139,11 +129,9 @@ pub fn takes(kind: Kind, number: u8) -> bool
 fn with_digit(number: u8, digit: u8) -> Option<u8>
     ensures { result ≡ at_most_255 (number * 10 + (digit - 48)) }
 {
-    let next = number as u16 * 10 + digit.saturating_sub(b'0') as u16;
-    if next > 255 {
-        return None;
-    }
-    Some(next as u8)
+    number
+        .checked_mul(10)?
+        .checked_add(digit.saturating_sub(b'0'))
 }
 
 /// The number that digits stand for, where it is at most 255 and written without an extra zero.

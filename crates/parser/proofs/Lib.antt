@@ -1,2 +1,1 @@
 mod Store
-mod Steps

@@ -1,5 +1,6 @@
 -- What the machine that reads a text keeps in mind, and what its steps do to that. Assumes nothing.
-use Rattle.std.specs.Prelude.{◌≡◌, ℕ, Bool, true, false, ◌&&◌, List, [], ◌∷◌, length, take, drop, Some, None, Ok, Err, Option, Result, nat_lt}
+use Rattle.std.specs.Prelude.{◌≡◌, ℕ, Bool, true, false, ◌&&◌, List, [], length, Some, None, Ok, Err, Option, Result, nat_lt, slice_get}
+use Rattle.fixed.specs.Items.{piled, listed}
 use Rattle.query.specs.declared.node.Kind.{Kind}
 use Rattle.query.specs.declared.node.Role.{Role}
 use Rattle.grammar.specs.declared.types.Level.{Level}
@@ -12,23 +13,15 @@ use Rattle.grammar.specs.Machine.{State, state, move, checked}
 use Rattle.words.specs.Words.{name}
 use Rattle.parser.specs.declared.machine.Machine.{Machine}
 
--- the levels from `free` on, and the first `count` records
+-- the levels, the innermost first, and the records so far
 abbrev pub seen : Machine → State
-seen m = state m.point (drop m.free m.levels) (take m.count m.nodes)
-
-abbrev pub first_of : List Level → Option Level
-first_of [] = None
-first_of (v ∷ vs) = Some v
-
-abbrev pub behind : List Level → List Level
-behind [] = []
-behind (v ∷ vs) = vs
+seen m = state m.point (piled m.levels) (listed m.nodes)
 
 -- the innermost level, where the reading stands inside it
 abbrev pub inside_top : Point → List Level → Option Level
 inside_top Start vs = None
 inside_top (Opened r) vs = None
-inside_top Inside vs = first_of vs
+inside_top Inside vs = slice_get vs 0
 
 -- there is room for one record more and one level more
 abbrev pub has_room : State → Bool

@@ -1,7 +1,9 @@
 -- A row of bytes of one class, step by step, and what a stream begins with.
-use Rattle.std.proofs.Common.{◌≡◌, ℕ, suc, ◌+◌, ◌-◌, ◌<◌, ◌≤◌, Bool, true, false, cond, eqb, List, [], ◌∷◌, length, get_or, take, drop, sym, refl, ap, ◌∙◌, add-zero, arith, eq-eqb}
-use Rattle.std.proofs.lemmas.Bool.{eqb-true, ne_eqb, both_ways}
-use Rattle.std.proofs.lemmas.List.{at_drop_more, at_drop_all, drop-drop, get_or-drop, length-drop, length-take-le}
+use Rattle.std.proofs.Common.{◌≡◌, ℕ, suc, ◌+◌, ◌<◌, ◌≤◌, Bool, true, false, cond, eqb, List, [], ◌∷◌, length, get_or, take, drop, sym, refl, ap, ◌∙◌, add-zero, arith, eq-eqb}
+use Rattle.std.proofs.lemmas.Bool.{eqb-true, both_ways}
+use Rattle.std.proofs.lemmas.List.{at_drop_more, at_drop_all, drop-drop, get_or-drop, length-drop}
+use Rattle.std.proofs.lemmas.List.Folds.{length-prefix_len}
+use Rattle.std.specs.List.{prefix_len}
 use Rattle.words.specs.declared.Class.{Class}
 use Rattle.words.specs.declared.Class.TheVariants.{Blank, Letter, Digit, Open, Close, Other}
 use Rattle.words.specs.Words.{class, class_number, same, row, begins, Lexeme, name, number, Stream, ends, word, grow, glued, front, stream}
@@ -20,21 +22,14 @@ back Other = refl
 pub same_self : (k c : Class) → c ≡ k → same k c ≡ true
 same_self k c e = eq-eqb (class_number k) (class_number c) (ap class_number (sym e))
 
-pub differ : (k c : Class) → (c ≡ k → ⊥) → same k c ≡ false
-differ k c n = ne_eqb (class_number k) (class_number c) (λ e. n (sym (back c) ∙ ap decode (sym e) ∙ back k))
+pub row_prefix : (k : Class) (bs : List ℕ) → prefix_len (λ b. same k (class b)) bs ≡ row k bs
+row_prefix k [] = refl
+row_prefix k (b ∷ bs) = let more = row_prefix k bs in grind arith
 
 pub row_more : (k : Class) (xs : List ℕ) (i : ℕ) → i < length xs → class (get_or xs i 0) ≡ k → row k (drop i xs) ≡ suc (row k (drop (i + 1) xs))
 row_more k xs i h e =
     let step : row k (drop i xs) ≡ cond (same k (class (get_or xs i 0))) (suc (row k (drop (i + 1) xs))) 0 = at_drop_more (row k) xs i 0 h in
     step ∙ ap (λ t. cond t (suc (row k (drop (i + 1) xs))) 0) (same_self k _ e)
-
-pub row_stop : (k : Class) (xs : List ℕ) (i : ℕ) → i < length xs → (class (get_or xs i 0) ≡ k → ⊥) → row k (drop i xs) ≡ 0
-row_stop k xs i h n =
-    let step : row k (drop i xs) ≡ cond (same k (class (get_or xs i 0))) (suc (row k (drop (i + 1) xs))) 0 = at_drop_more (row k) xs i 0 h in
-    step ∙ ap (λ t. cond t (suc (row k (drop (i + 1) xs))) 0) (differ k _ n)
-
-pub row_end : (k : Class) (xs : List ℕ) (i : ℕ) → length xs ≤ i → row k (drop i xs) ≡ 0
-row_end k xs i h = at_drop_all (row k) xs i h
 
 is_class : (k c : Class) → same k c ≡ true → c ≡ k
 is_class k c e = sym (back c) ∙ ap decode (sym (eqb-true (class_number k) (class_number c) e)) ∙ back k
@@ -83,31 +78,36 @@ module _ (k : Class) (mk : List ℕ → Lexeme) (fr : (p b : ℕ) (bs : List ℕ
   whole p (b ∷ bs) h e =
       ap (λ c. front c p b bs (stream (p + 1) bs)) e ∙ long p b bs ∙ ap (λ t. word p (mk (take (cond t (suc (row k bs)) 0) (b ∷ bs))) (stream (p + cond t (suc (row k bs)) 0) (drop (cond t (suc (row k bs)) 0) (b ∷ bs)))) (sym (same_self k (class b) e))
 
-  pub whole_at : (text : List ℕ) (p end : ℕ) → p < length text → class (get_or text p 0) ≡ k → end ≡ p + row k (drop p text) → stream p (drop p text) ≡ word p (mk (take (end - p) (drop p text))) (stream end (drop end text))
-  whole_at text p end h e is =
+  -- taken from the bytes at place p of a text, which then stands as it was
+  pub whole_at : (text after bytes : List ℕ) (p end : ℕ) → after ≡ text → p < length text → class (get_or text p 0) ≡ k → end ≡ p + row k (drop p text) → bytes ≡ take (row k (drop p text)) (drop p text) →
+      stream p (drop p text) ≡ word p (mk bytes) (stream end (drop end after))
+  whole_at text after bytes p end same h e is part =
       let some : 0 < length (drop p text) = omega (arith, length-drop p text) in
       let first : class (get_or (drop p text) 0 0) ≡ k = ap class (get_or-drop p text 0 0 ∙ ap (λ i. get_or text i 0) (add-zero p)) ∙ e in
-      let m : row k (drop p text) ≡ end - p = omega arith in
-      whole p (drop p text) some first
-      ∙ ap (λ l. word p (mk (take (row k (drop p text)) (drop p text))) (stream (p + row k (drop p text)) l)) (drop-drop (row k (drop p text)) p text)
-      ∙ ap (λ i. word p (mk (take i (drop p text))) (stream (p + row k (drop p text)) (drop (p + row k (drop p text)) text))) m
-      ∙ ap (λ q. word p (mk (take (end - p) (drop p text))) (stream q (drop q text))) (sym is)
+      let all = whole p (drop p text) some first in
+      let rest = drop-drop (row k (drop p text)) p text in
+      cc
 
-pub name_at : (text : List ℕ) (p end : ℕ) → p < length text → class (get_or text p 0) ≡ Letter → end ≡ p + row Letter (drop p text) → stream p (drop p text) ≡ word p (name (take (end - p) (drop p text))) (stream end (drop end text))
+pub name_at : (text after bytes : List ℕ) (p end : ℕ) → after ≡ text → p < length text → class (get_or text p 0) ≡ Letter → end ≡ p + row Letter (drop p text) → bytes ≡ take (row Letter (drop p text)) (drop p text) →
+    stream p (drop p text) ≡ word p (name bytes) (stream end (drop end after))
 name_at = whole_at Letter name (λ p b bs s. refl) (λ b bs. refl)
 
-pub number_at : (text : List ℕ) (p end : ℕ) → p < length text → class (get_or text p 0) ≡ Digit → end ≡ p + row Digit (drop p text) → stream p (drop p text) ≡ word p (number (take (end - p) (drop p text))) (stream end (drop end text))
+pub number_at : (text after bytes : List ℕ) (p end : ℕ) → after ≡ text → p < length text → class (get_or text p 0) ≡ Digit → end ≡ p + row Digit (drop p text) → bytes ≡ take (row Digit (drop p text)) (drop p text) →
+    stream p (drop p text) ≡ word p (number bytes) (stream end (drop end after))
 number_at = whole_at Digit number (λ p b bs s. refl) (λ b bs. refl)
 
 -- what a stream is at a byte of class c that is no part of a row
-pub one_at : (c : Class) (text : List ℕ) (p : ℕ) → p < length text → class (get_or text p 0) ≡ c → stream p (drop p text) ≡ front c p (get_or text p 0) (drop (p + 1) text) (stream (p + 1) (drop (p + 1) text))
-one_at c text p h e = at_drop_more (stream p) text p 0 h ∙ ap (λ k. front k p (get_or text p 0) (drop (p + 1) text) (stream (p + 1) (drop (p + 1) text))) e
+pub one_at : (c : Class) (text after : List ℕ) (p end : ℕ) → after ≡ text → p < length text → class (get_or text p 0) ≡ c → end ≡ p + 1 →
+    stream p (drop p text) ≡ front c p (get_or text p 0) (drop (p + 1) text) (stream end (drop end after))
+one_at c text after p end same h e is =
+    let one = at_drop_more (stream p) text p 0 h in
+    cc
 
-pub skip_at : (text : List ℕ) (at place : ℕ) → place ≡ at + row Blank (drop at text) → stream at (drop at text) ≡ stream place (drop place text)
-skip_at text at place is =
-    skip at (drop at text)
-    ∙ ap (λ l. stream (at + row Blank (drop at text)) l) (drop-drop (row Blank (drop at text)) at text)
-    ∙ ap (λ q. stream q (drop q text)) (sym is)
+pub skip_at : (text after : List ℕ) (at place : ℕ) → after ≡ text → place ≡ at + row Blank (drop at text) → stream at (drop at text) ≡ stream place (drop place after)
+skip_at text after at place same is =
+    let past = skip at (drop at text) in
+    let rest = drop-drop (row Blank (drop at text)) at text in
+    cc
 
 pub end_at : (text : List ℕ) (place : ℕ) → length text ≤ place → stream place (drop place text) ≡ ends
 end_at text place h = at_drop_all (stream place) text place h
@@ -120,13 +120,17 @@ past_row k (b ∷ bs) h e = go (same k (class b)) refl (past_row k bs) h e
     go true q ih h e = ih (omega arith) e
     go false q ih h e = both_ways (same k (class b)) q (same_self k (class b) e)
 
-pub past_row_at : (k : Class) (text : List ℕ) (at place : ℕ) → at ≤ length text → place ≡ at + row k (drop at text) → place < length text → class (get_or text place 0) ≡ k → ⊥
-past_row_at k text at place le is h e =
-    past_row k (drop at text) (omega (arith, length-drop at text)) (ap class (get_or-drop at text (row k (drop at text)) 0 ∙ ap (λ i. get_or text i 0) (sym is)) ∙ e)
+pub past_row_at : (k : Class) (text after : List ℕ) (at place : ℕ) → after ≡ text → at ≤ length text → place ≡ at + row k (drop at text) → place < length after → class (get_or after place 0) ≡ k → ⊥
+past_row_at k text after at place same le is h e =
+    let within : place < length text = omega (arith, ap length same) in
+    past_row k (drop at text) (omega (arith, length-drop at text)) (ap class (get_or-drop at text (row k (drop at text)) 0 ∙ ap (λ i. get_or text i 0) (sym is) ∙ ap (λ l. get_or l place 0) (sym same)) ∙ e)
 
--- a row that begins is not empty, and its part of the text is as long as it is
-pub spans : (k : Class) (text : List ℕ) (at p end : ℕ) → at ≤ p → p < length text → class (get_or text p 0) ≡ k → end ≡ p + row k (drop p text) → end ≤ length text → (at ≤ p) × (p < end) × (p + length (take (end - p) (drop p text)) ≡ end)
-spans k text at p end before h e is le =
+row_long : (k : Class) (bs : List ℕ) → length (take (row k bs) bs) ≡ row k bs
+row_long k bs = ap (λ n. length (take n bs)) (sym (row_prefix k bs)) ∙ length-prefix_len _ bs ∙ row_prefix k bs
+
+-- a row that begins is not empty, and is as long as its bytes
+pub spans : (k : Class) (text bytes : List ℕ) (p end : ℕ) → p < length text → class (get_or text p 0) ≡ k → end ≡ p + row k (drop p text) → bytes ≡ take (row k (drop p text)) (drop p text) →
+    (p < end) × (p + length bytes ≡ end)
+spans k text bytes p end h e is part =
     let more : row k (drop p text) ≡ suc (row k (drop (p + 1) text)) = row_more k text p h e in
-    let fits : end - p ≤ length (drop p text) = omega (arith, length-drop p text) in
-    (before, omega arith, omega (arith, length-take-le (end - p) (drop p text) fits))
+    (omega arith, omega (arith, ap length part, row_long k (drop p text)))

@@ -2,8 +2,9 @@
 
 #![tactic(auto)]
 
-ghost use Rattle.std.specs.Prelude.{◌≡◌, ◌+◌, ◌≤◌, length, drop};
-ghost use Rattle.words.specs.Words.{class, row};
+ghost use Rattle.std.specs.Prelude.{◌≡◌, ◌+◌, ◌≤◌, length, take, drop};
+ghost use Rattle.std.specs.List.{prefix_len};
+ghost use Rattle.words.specs.Words.{class, same, row};
 ghost use Rattle.words.specs.Ahead.{ahead, Takes, Stands, Stays};
 
 mod reader;
@@ -45,31 +46,31 @@ pub struct WordFault {
 fn class_of(byte: u8) -> Class
     ensures { result ≡ class byte }
 {
-    if byte.is_ascii_alphabetic() {
-        Class::Letter
-    } else if byte.is_ascii_digit() {
-        Class::Digit
-    } else {
-        match byte {
-            b'(' => Class::Open,
-            b')' => Class::Close,
-            b' ' | b'\t' | b'\r' | b'\n' => Class::Blank,
-            _ => Class::Other,
-        }
+    match byte {
+        b'A'..=b'Z' | b'a'..=b'z' => Class::Letter,
+        b'0'..=b'9' => Class::Digit,
+        b'(' => Class::Open,
+        b')' => Class::Close,
+        b' ' | b'\t' | b'\r' | b'\n' => Class::Blank,
+        _ => Class::Other,
     }
 }
 
-// Where the longest row of bytes of one class ends that starts at `from`.
-fn row_end(text: &[u8], from: usize, row_class: Class) -> usize
-    requires { from ≤ length text.now }
-    ensures within { result ≤ length text.now }
-    ensures whole { result ≡ from + row row_class (drop from text.now) }
+fn is_of(byte: u8, row_class: Class) -> bool
+    ensures { result ≡ same row_class (class byte) }
 {
-    let mut end = from;
-    while end < text.len() && class_of(text[end]) == row_class {
-        end += 1;
-    }
-    end
+    class_of(byte) == row_class
+}
+
+// How many bytes of one class stand in front.
+fn row_length(bytes: &[u8], row_class: Class) -> usize
+    ensures within { result ≤ length bytes.now }
+    ensures whole { result ≡ prefix_len (λ b. same row_class (class b)) bytes.now }
+{
+    bytes
+        .iter()
+        .take_while(|byte| is_of(**byte, row_class))
+        .count()
 }
 
 impl<'a> Reader<'a> {
@@ -81,6 +82,28 @@ impl<'a> Reader<'a> {
         Reader { text, at: 0 }
     }
 
+    // Takes so many bytes.
+    fn take(&mut self, size: usize) -> &'a [u8]
+        requires { self.old.at + size ≤ length self.old.text.now }
+        ensures text { self.new.text.now ≡ self.old.text.now }
+        ensures at { self.new.at ≡ self.old.at + size }
+        ensures bytes { result.now ≡ take size (drop self.old.at self.old.text.now) }
+    {
+        let from = self.at;
+        self.at += size;
+        &self.text[from..self.at]
+    }
+
+    // Takes the longest row of bytes of one class in front.
+    fn take_row(&mut self, row_class: Class) -> &'a [u8]
+        ensures text { self.new.text.now ≡ self.old.text.now }
+        ensures at { self.new.at ≡ self.old.at + row row_class (drop self.old.at self.old.text.now) }
+        ensures bytes { result.now ≡ take (row row_class (drop self.old.at self.old.text.now)) (drop self.old.at self.old.text.now) }
+    {
+        let size = row_length(&self.text[self.at..], row_class);
+        self.take(size)
+    }
+
     /// The next word, or none where the text ends.
     pub fn next_word(&mut self) -> Result<Option<Word<'a>>, WordFault>
         ensures text { self.new.text.now ≡ self.old.text.now }
@@ -88,29 +111,20 @@ impl<'a> Reader<'a> {
         ensures step { Takes result (ahead self.old) (ahead self.new) }
         ensures rest { Stays result (ahead self.old) (ahead self.new) }
     {
-        let text = self.text;
-        let place = row_end(text, self.at, Class::Blank);
-        self.at = place;
-        if place >= text.len() {
+        self.take_row(Class::Blank);
+        let place = self.at;
+        if place == self.text.len() {
             return Ok(None);
         }
-        let token = match class_of(text[place]) {
-            Class::Letter => {
-                let end = row_end(text, place, Class::Letter);
-                self.at = end;
-                Token::Name(&text[place..end])
-            }
-            Class::Digit => {
-                let end = row_end(text, place, Class::Digit);
-                self.at = end;
-                Token::Number(&text[place..end])
-            }
+        let token = match class_of(self.text[place]) {
+            Class::Letter => Token::Name(self.take_row(Class::Letter)),
+            Class::Digit => Token::Number(self.take_row(Class::Digit)),
             Class::Open => {
-                self.at = place + 1;
+                self.take(1);
                 Token::Opens
             }
             Class::Close => {
-                self.at = place + 1;
+                self.take(1);
                 Token::Closes
             }
             Class::Blank | Class::Other => return Err(WordFault { place }),
