@@ -136,10 +136,12 @@ pub fn is_query(records: &[Node], stage: Stage) -> bool
     ensures answer { result ≡ isQuery stage records.now }
     ensures exact { Decides result (AreQuery stage records.now) }
 {
-    records.len() <= 64 && tree_end(records, 0, Role::Shape, stage, 16) == Some(records.len())
+    let few = records.len() <= 64;
+    few && tree_end(records, 0, Role::Shape, stage, 16) == Some(records.len())
 }
 
 /// A query is given back by its records, so no two queries have the same.
+#[tactic(auto, using(crate::proofs::Standing::reads_back))]
 pub fn records_read_back()
     ensures { ReadsBack }
 {}
@@ -150,6 +152,7 @@ pub fn records_stand()
 {}
 
 /// Queries are equal just where they differ in nothing but the places of their words.
+#[tactic(auto, using(crate::proofs::Alike::equal_but_for_words))]
 pub fn equal_but_for_words()
     ensures { EqualButForWords }
 {}

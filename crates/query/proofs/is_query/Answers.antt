@@ -4,14 +4,14 @@ use Rattle.query.specs.Stands.{is_query}
 use Rattle.query.proofs.Standing.{decides_query}
 use Rattle.query.proofs.is_query.Goals as goal
 
-pub returns-then-records-le64-clause-exact : goal.returns-then-records-le64-clause-exact
+pub returns-then-few-clause-exact : goal.returns-then-few-clause-exact
 unfolding is_query
-returns-then-records-le64-clause-exact c =
+returns-then-few-clause-exact c =
     let e : c.eq.result ≡ is_query c.args.stage c.args.records.now = search rules in
     Decides-at _ _ e (decides_query c.args.stage c.args.records.now)
 
-pub returns-else-records-le64-clause-exact : goal.returns-else-records-le64-clause-exact
+pub returns-else-few-clause-exact : goal.returns-else-few-clause-exact
 unfolding is_query
-returns-else-records-le64-clause-exact c =
+returns-else-few-clause-exact c =
     let e : nat_le (length c.args.records.now) 64 ≡ is_query c.args.stage c.args.records.now = search rules in
     Decides-at _ _ e (decides_query c.args.stage c.args.records.now)
