@@ -1,5 +1,5 @@
 -- Queries that are equal but for the places of their words.
-use Rattle.std.proofs.Common.{◌≡◌, ℕ, Bool, true, ◌&&◌, eqb, [], ◌∷◌, get_or, sym, refl, ap, ◌∙◌, ap₂}
+use Rattle.std.proofs.Common.{◌≡◌, ℕ, Bool, true, ◌&&◌, eqb, [], ◌∷◌, get_or, sym, refl, ap, ◌∙◌, ap₂, rules}
 use Rattle.std.proofs.lemmas.Bool.{and_parts, and_from, eqb-true, eq-eqb, false≢true}
 use Rattle.query.specs.declared.node.Kind.{Kind}
 use Rattle.query.specs.declared.node.Kind.TheVariants.{Symbol, Any, Concat, Exact, Atleast, Atmost, In, Precisely, Noless, Nomore, And, Or, Inorder}
@@ -12,19 +12,7 @@ abbrev kind_of : ℕ → Kind
 kind_of n = get_or (Symbol ∷ Any ∷ Concat ∷ Exact ∷ Atleast ∷ Atmost ∷ In ∷ Precisely ∷ Noless ∷ Nomore ∷ And ∷ Or ∷ Inorder ∷ []) n Symbol
 
 kind_back : (k : Kind) → kind_of (kind_number k) ≡ k
-kind_back Symbol = refl
-kind_back Any = refl
-kind_back Concat = refl
-kind_back Exact = refl
-kind_back Atleast = refl
-kind_back Atmost = refl
-kind_back In = refl
-kind_back Precisely = refl
-kind_back Noless = refl
-kind_back Nomore = refl
-kind_back And = refl
-kind_back Or = refl
-kind_back Inorder = refl
+kind_back k = search rules
 
 -- no two kinds have one number
 pub same_kind_is : (k l : Kind) → same_kind k l ≡ true → k ≡ l

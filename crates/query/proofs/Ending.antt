@@ -1,6 +1,7 @@
 -- The steps of the search for the end of a query in records.
-use Rattle.std.proofs.Common.{◌≡◌, ℕ, zero, suc, ◌+◌, ◌-◌, ◌<◌, ◌≤◌, true, false, ◌&&◌, ltb, ◌⊎◌, List, length, Some, None, Option, sym, refl, ap, ◌∙◌, ap₂, inl, inr, arith}
-use Rattle.std.proofs.lemmas.Bool.{and_from, and_left, and_right, lt-ltb, le-ltb, cond-true, cond-false}
+use Rattle.std.proofs.Common.{◌≡◌, ℕ, zero, suc, ◌+◌, ◌-◌, ◌<◌, ◌≤◌, true, false, ◌&&◌, ltb, ◌⊎◌, List, length, Some, None, Option, sym, refl, ap, ◌∙◌, ap₂, arith}
+use Rattle.std.proofs.lemmas.Grind.{common_steps}
+use Rattle.std.proofs.lemmas.Bool.{and_from, and_right, lt-ltb, cond-true, cond-false}
 use Rattle.query.specs.declared.node.Node.{Node}
 use Rattle.query.specs.declared.node.Role.{Role}
 use Rattle.query.specs.declared.node.Stage.{Stage}
@@ -11,10 +12,7 @@ module _ (s : Stage) (ns : List Node) (r : Role) (i : ℕ) where
   -- no level is left, or no record
   pub end_out : (d : ℕ) → (d ≡ 0) ⊎ ((d ≡ 0 → ⊥) × (length ns ≤ i)) → None ≡ end_at s d ns r i
   unfolding end_at
-  end_out zero h = refl
-  end_out (suc d) (inl e) = absurd (omega arith)
-  end_out (suc d) (inr h) =
-      sym (cond-false (ltb i (length ns) && record_right s r (at ns i)) _ None (and_left (ltb i (length ns)) _ (le-ltb i (length ns) h.1)))
+  end_out d h = grind (arith, common_steps)
 
   -- the record is wrong here
   pub end_wrong : (d : ℕ) → false ≡ record_right s r (at ns i) → None ≡ end_at s d ns r i

@@ -46,7 +46,7 @@ some_same : (i j : ℕ) → ◌≡◌ {A = Option ℕ} (Some i) (Some j) → i �
 some_same i j e = cc
 
 none_some : (j : ℕ) → ◌≡◌ {A = Option ℕ} None (Some j) → ⊥
-none_some j e = let z : ◌≡◌ {A = ℕ} 0 1 = cc in omega arith
+none_some j e = cc
 
 module _ (s : Stage) (d : ℕ) (ns : List Node) (r : Role) (whole : (i j : ℕ) → end_at s d ns r i ≡ Some j → Sound s d ns r i j) where
   pub sound_each : (k i j : ℕ) → ends (end_at s d ns r) k i ≡ Some j → SoundEach s d ns r k i j

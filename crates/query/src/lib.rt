@@ -78,20 +78,14 @@ impl Node {
     pub fn blank() -> Node
         ensures { result ≡ blank }
     {
-        Node {
-            kind: Kind::Symbol,
-            number: 0,
-            parts: 0,
-            place: 0,
-            length: 0,
-        }
+        Node::default()
     }
 
     /// Where the record's word ends in the text.
     pub fn word_end(self) -> usize
         ensures { result ≡ self.place + self.length }
     {
-        self.place as usize + self.length as usize
+        usize::from(self.place) + usize::from(self.length)
     }
 
     // Whether the number is one that the kind takes at this stage.
@@ -136,28 +130,18 @@ fn tree_end(records: &[Node], i: usize, role: Role, stage: Stage, levels: u8) ->
     Some(next)
 }
 
-// Whether there are at most 64 records, and a query of at most 16 levels takes up all of them.
-fn takes_all(records: &[Node], stage: Stage) -> bool
-    ensures { result ≡ (nat_le (length records.now) 64 && is_at (end_at stage 16 records.now Shape 0) (length records.now)) }
-{
-    if records.len() > 64 {
-        return false;
-    }
-    match tree_end(records, 0, Role::Shape, stage, 16) {
-        Some(next) => next == records.len(),
-        None => false,
-    }
-}
-
 /// Whether the records are a query that has come to this stage.
+#[tactic(auto, unfolding(crate::specs::Stands::is_query))]
 pub fn is_query(records: &[Node], stage: Stage) -> bool
     ensures answer { result ≡ isQuery stage records.now }
     ensures exact { Decides result (AreQuery stage records.now) }
 {
-    takes_all(records, stage)
+    let few = records.len() <= 64;
+    few && tree_end(records, 0, Role::Shape, stage, 16) == Some(records.len())
 }
 
 /// A query is given back by its records, so no two queries have the same.
+#[tactic(auto, using(crate::proofs::Standing::reads_back))]
 pub fn records_read_back()
     ensures { ReadsBack }
 {}
@@ -168,6 +152,7 @@ pub fn records_stand()
 {}
 
 /// Queries are equal just where they differ in nothing but the places of their words.
+#[tactic(auto, using(crate::proofs::Alike::equal_but_for_words))]
 pub fn equal_but_for_words()
     ensures { EqualButForWords }
 {}

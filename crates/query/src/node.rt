@@ -1,8 +1,9 @@
 //! The records that a query is written as.
 
 /// What a record says: a symbol, or one of the twelve operators.
-#[derive(Clone, Copy, PartialEq, Eq, Debug)]
+#[derive(Clone, Copy, PartialEq, Eq, Debug, Default)]
 pub enum Kind {
+    #[default]
     Symbol,
     Any,
     Concat,
@@ -19,7 +20,7 @@ pub enum Kind {
 }
 
 /// One record of a query. Its parts follow it, each with its own parts behind it.
-#[derive(Clone, Copy, PartialEq, Eq, Debug)]
+#[derive(Clone, Copy, PartialEq, Eq, Debug, Default)]
 pub struct Node {
     pub kind: Kind,
     /// The symbol, the count or the length that goes with the kind, else 0.

@@ -63,9 +63,12 @@ impl Names<'_> {
     fn bound(&self, node: Node) -> Node
         ensures { result ≡ bound (names_of self.now.alphabet.now) self.now.text.now node }
     {
+        if node.kind != Kind::Symbol {
+            return node;
+        }
         match self.symbol_of(node) {
-            Some(number) if node.kind == Kind::Symbol => Node { number, ..node },
-            _ => node,
+            Some(number) => Node { number, ..node },
+            None => node,
         }
     }
 

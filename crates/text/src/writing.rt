@@ -11,7 +11,7 @@ use alphabet::Alphabet;
 use query::{Node, Stage, is_query};
 use writer::put_all;
 
-// Refuses records of the sheet, or a buffer of so many bytes, that these are not written into.
+// Refuses a short sheet, a buffer of too few bytes, and records that are no query bound by such an alphabet.
 fn check(
     records: &[Node],
     sheet: &[Node],

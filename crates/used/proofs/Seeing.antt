@@ -1,9 +1,10 @@
 -- Fitting sees no symbols but those that a query uses.
-use Rattle.std.proofs.Common.{◌≡◌, ℕ, suc, ◌+◌, ◌%◌, ◌^◌, ◌<◌, ◌≤◌, Bool, true, false, ◌&&◌, ◌||◌, eqb, List, [], ◌∷◌, ◌++◌, length, get_or, take, sym, refl, ap, ◌∙◌, ap₂, mod-eq_of_lt, arith}
+use Rattle.std.proofs.Common.{◌≡◌, ℕ, suc, ◌^◌, ◌<◌, ◌≤◌, Bool, true, false, ◌⊎◌, inl, inr, ltb, ◌&&◌, ◌||◌, eqb, List, [], ◌∷◌, ◌++◌, length, get_or, sym, refl, ap, ◌∙◌, ap₂, arith}
 use lib.Bits.{bit_or}
-use lib.Pow.{pow-lt}
-use Rattle.std.proofs.lemmas.List.{take_more, take_all}
-use Rattle.std.proofs.lemmas.Bool.{or_left, or_right, eq-eqb, ne_eqb}
+use Rattle.std.specs.List.{fold}
+use Rattle.std.specs.Bool.{if◌then◌else◌}
+use Rattle.query.specs.Kinds.{same_kind}
+use Rattle.std.proofs.lemmas.Bool.{cases_lt, lt-ltb, le-ltb, or_left, or_right, eq-eqb, ne_eqb}
 use Rattle.std.proofs.lemmas.Bool.Decides.{nat_tests}
 use Rattle.word.proofs.Bits.{has_none}
 use Rattle.ends.proofs.Digits.{has_or, has_power}
@@ -13,7 +14,7 @@ use Rattle.query.specs.declared.node.Kind.TheVariants.{Symbol, Any, Concat, Exac
 use Rattle.query.specs.declared.node.Node.{Node}
 use Rattle.query.specs.Tree.{Query, node, Queries, none, more, records, records_each}
 use Rattle.shape.specs.Fits.{Rule, only, exactly, at_least, at_most, whole, fits, fits_each}
-use Rattle.used.specs.Uses.{is_symbol, used_in, uses, uses_each, UsedByRecords, SeesOnlyUsed}
+use Rattle.used.specs.Uses.{is_symbol, symbol_word, used_in, uses, uses_each, UsedByRecords, SeesOnlyUsed}
 
 or_assoc : (x y z : Bool) → ((x || y) || z) ≡ (x || (y || z))
 or_assoc true y z = refl
@@ -35,6 +36,10 @@ mutual
   used_by_each : (qs : Queries) (j : ℕ) → used_in (records_each qs) j ≡ uses_each qs j
   used_by_each none j = refl
   used_by_each (more q qs) j = used_append (records q) (records_each qs) j ∙ ap₂ ◌||◌ (used_by_records q j) (used_by_each qs j)
+
+or_none : (x : Bool) → x ≡ (x || false)
+or_none true = refl
+or_none false = refl
 
 -- a whole of a kind sees the words only through their number, but for a symbol
 module _ (words others : List ℕ) (same : length words ≡ length others) where
@@ -70,42 +75,29 @@ module _ (words others : List ℕ) (same : length words ≡ length others) where
 pub sees_only_used : SeesOnlyUsed
 sees_only_used q words others same h s a b = ap (λ (P : Rule). P s a b) (sees words others same q h)
 
--- a symbol below 32 as a word
-pub symbol_bit : (n j : ℕ) → n < 32 → has (2 ^ n % 2 ^ 32) j ≡ eqb n j
-symbol_bit n j l = ap (λ (w : ℕ). has w j) (mod-eq_of_lt (pow-lt l)) ∙ has_power n j ∙ eqb_swap
+-- a record's word has just its symbol
+word_has : (x : Node) (j : ℕ) → j < 32 → has (symbol_word x) j ≡ is_symbol x.kind x.number j
+word_has x j l = go (same_kind x.kind Symbol) (cases_lt x.number 32)
   where
-    eqb_swap : eqb j n ≡ eqb n j
-    eqb_swap = grind (arith, nat_tests)
+    swap : eqb j x.number ≡ eqb x.number j
+    swap = grind (arith, nat_tests)
 
-pub symbol_past : (n j : ℕ) → 32 ≤ n → j < 32 → has 0 j ≡ eqb n j
-symbol_past n j l u = has_none j ∙ sym (ne_eqb n j (λ e. omega arith))
+    go : (t : Bool) → (x.number < 32) ⊎ (32 ≤ x.number) → has (if t && ltb x.number 32 then 2 ^ x.number else 0) j ≡ (t && eqb x.number j)
+    go false h = has_none j
+    go true (inl h) = ap (λ (t : Bool). has (if t then 2 ^ x.number else 0) j) (lt-ltb x.number 32 h) ∙ has_power x.number j ∙ swap
+    go true (inr h) = ap (λ (t : Bool). has (if t then 2 ^ x.number else 0) j) (le-ltb x.number 32 h) ∙ has_none j ∙ sym (ne_eqb x.number j (λ e. omega arith))
 
-pub no_symbol : (k : Kind) (n j : ℕ) → (k ≡ Symbol → ⊥) → has 0 j ≡ is_symbol k n j
-no_symbol Symbol n j h = absurd (h refl)
-no_symbol Any n j h = has_none j
-no_symbol Concat n j h = has_none j
-no_symbol Exact n j h = has_none j
-no_symbol Atleast n j h = has_none j
-no_symbol Atmost n j h = has_none j
-no_symbol In n j h = has_none j
-no_symbol Precisely n j h = has_none j
-no_symbol Noless n j h = has_none j
-no_symbol Nomore n j h = has_none j
-no_symbol And n j h = has_none j
-no_symbol Or n j h = has_none j
-no_symbol Inorder n j h = has_none j
+-- the words of all records in one
+abbrev pub gathered : ℕ → List Node → ℕ
+gathered w xs = fold (λ (v : ℕ) (x : Node). bit_or v (symbol_word x)) w xs
 
-or_none : (x : Bool) → (x || false) ≡ x
-or_none true = refl
-or_none false = refl
-
--- one record more
-pub used_more : (xs : List Node) (i j w v : ℕ) (d : Node) → i < length xs → has w j ≡ used_in (take i xs) j →
-    has v j ≡ is_symbol (get_or xs i d).kind (get_or xs i d).number j → has (bit_or w v) j ≡ used_in (take (i + 1) xs) j
+pub gathered_has : (xs : List Node) (w j : ℕ) → j < 32 → has (gathered w xs) j ≡ (has w j || used_in xs j)
 unfolding used_in
-used_more xs i j w v d l h e =
-    has_or w v j ∙ ap₂ ◌||◌ h (e ∙ sym (or_none (is_symbol (get_or xs i d).kind (get_or xs i d).number j)))
-    ∙ sym (ap (λ (ys : List Node). used_in ys j) (take_more xs i d l) ∙ used_append (take i xs) (get_or xs i d ∷ []) j)
+gathered_has [] w j l = or_none (has w j)
+gathered_has (x ∷ xs) w j l =
+    gathered_has xs (bit_or w (symbol_word x)) j l
+    ∙ ap (λ (t : Bool). t || used_in xs j) (has_or w (symbol_word x) j ∙ ap (λ (t : Bool). has w j || t) (word_has x j l))
+    ∙ or_assoc (has w j) (is_symbol x.kind x.number j) (used_in xs j)
 
-pub used_all : (xs : List Node) (i j : ℕ) → length xs ≤ i → used_in (take i xs) j ≡ used_in xs j
-used_all xs i j l = ap (λ (ys : List Node). used_in ys j) (take_all i xs l)
+pub gathered_all : (xs : List Node) (j : ℕ) → j < 32 → has (gathered 0 xs) j ≡ used_in xs j
+gathered_all xs j l = gathered_has xs 0 j l ∙ ap (λ (t : Bool). t || used_in xs j) (has_none j)

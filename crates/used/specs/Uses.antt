@@ -1,5 +1,5 @@
 -- The symbols that a query uses. Assumes nothing.
-use Rattle.std.specs.Prelude.{◌≡◌, ℕ, Bool, true, false, ◌&&◌, ◌||◌, List, [], ◌∷◌, length, ◌==◌, slice_index}
+use Rattle.std.specs.Prelude.{◌≡◌, ℕ, ◌^◌, Bool, true, false, if◌then◌else◌, ◌&&◌, ◌||◌, List, [], ◌∷◌, length, ◌==◌, nat_lt, slice_index}
 use Rattle.word.specs.Words.{has}
 use Rattle.query.specs.declared.node.Kind.{Kind}
 use Rattle.query.specs.declared.node.Kind.TheVariants.{Symbol}
@@ -11,6 +11,10 @@ use Rattle.shape.specs.Fits.{fits}
 -- a record of this kind and number is symbol j
 abbrev pub is_symbol : Kind → ℕ → ℕ → Bool
 is_symbol k n j = same_kind k Symbol && n == j
+
+-- the symbol that a record is, as a word; nothing where it is none of 32
+abbrev pub symbol_word : Node → ℕ
+symbol_word x = if same_kind x.kind Symbol && nat_lt x.number 32 then 2 ^ x.number else 0
 
 -- one of the records is symbol j
 unfoldable pub used_in : List Node → ℕ → Bool
