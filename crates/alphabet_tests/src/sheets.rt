@@ -1,6 +1,7 @@
 //! Sheets that are loaded, and sheets with one fault, at each place where there can be one.
 
 use alphabet::{Alphabet, SheetFault, is_operator};
+use refusal::Refusal;
 
 // Three symbols, names four wide: up, Down and even.
 const SHEET: &[u8; 68] = b"\x03\x04\
