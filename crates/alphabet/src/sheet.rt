@@ -20,6 +20,7 @@ use crate::{Alphabet, Asked, Bounds, SheetFault, is_operator};
 use fixed::List;
 
 // Whether the numbers at the front are right, and the sheet as long as they ask for.
+#[tactic(auto, using(crate::proofs::Fields::too_short), unfolding(crate::specs::Sheets::layout_right))]
 fn is_laid_out(sheet: &[u8]) -> bool
     ensures { result ≡ layout_right sheet.now }
 {
@@ -49,6 +50,7 @@ fn is_blank(bytes: &[u8]) -> bool
 }
 
 // The name in the bytes, where they are letters padded with spaces and no operator word.
+#[tactic(auto, using(crate::proofs::Lettering::letters_fit, crate::proofs::Lettering::no_letters, crate::proofs::Lettering::not_padded, crate::proofs::Lettering::an_operator, crate::proofs::Lettering::a_name))]
 fn name_in(bytes: &[u8]) -> Option<&[u8]>
     ensures { option_map (λ x. x.now) result ≡ nameIn bytes.now }
 {
@@ -61,6 +63,7 @@ fn name_in(bytes: &[u8]) -> Option<&[u8]>
 }
 
 // The signed number that eight bytes spell, the highest first.
+#[tactic(auto, using(crate::proofs::Numbers::number_is))]
 fn number_in(bytes: &[u8; 8]) -> i64
     ensures { result ≡ number_in bytes.now }
 {
@@ -76,6 +79,7 @@ impl Bounds {
     }
 
     // The bounds in a row, where they are right.
+    #[tactic(auto, using(crate::proofs::Rows::first_wrong, crate::proofs::Rows::last_wrong))]
     fn in_row(row: &[u8]) -> Option<Bounds>
         requires { length row.now ≡ 18 }
         ensures { result ≡ row_bounds row.now }
@@ -115,6 +119,7 @@ impl<'a> Layout<'a> {
     }
 
     // The bytes of the symbol's name.
+    #[tactic(auto, using(crate::proofs::Fields::name_ends, crate::proofs::Fields::cut), unfolding(crate::specs::Sheets::name_field))]
     fn name_field(&self, symbol: u8) -> &'a [u8]
         requires { symbol < symbols_said self.now.sheet.now }
         ensures { result.now ≡ nameField self.now.sheet.now symbol }
@@ -125,6 +130,7 @@ impl<'a> Layout<'a> {
     }
 
     // The bytes of the symbol's row.
+    #[tactic(auto, using(crate::proofs::Fields::row_ends, crate::proofs::Fields::length_row, crate::proofs::Fields::cut), unfolding(crate::specs::Sheets::row_field))]
     fn row_field(&self, symbol: u8) -> &'a [u8]
         requires { symbol < symbols_said self.now.sheet.now }
         ensures value { result.now ≡ rowField self.now.sheet.now symbol }
@@ -186,6 +192,7 @@ impl Alphabet {
 }
 
 /// What an answer tells of a sheet is so, and only one answer tells what is so.
+#[tactic(auto, using(crate::proofs::Telling::answer_tells))]
 pub fn answer_tells()
     ensures { AnswerTells }
 {}
