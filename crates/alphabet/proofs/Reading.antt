@@ -27,6 +27,11 @@ name_in_letters bs word e = go (well_formed bs && not (is_among operator_words (
     go true e = cc
     go false e = absurd (let z : ◌≡◌ {A = ℕ} 0 1 = cc in omega arith)
 
+-- a field has no name
+pub nameless : (s : List ℕ) (j : ℕ) (field : List ℕ) → field ≡ name_field s j → None ≡ name_in field → name_right s j ≡ false
+nameless s j field at none =
+    ap (λ o. is_some o && not (is_among (sheet_names s j) (sheet_name s j))) (sym (none ∙ ap name_in at))
+
 -- a field has a name, which the earlier symbols have too or have not
 module _ (s : List ℕ) (j : ℕ) (field word : List ℕ) (at : field ≡ name_field s j) (in_field : Some word ≡ name_in field) where
   is : Some word ≡ name_in (name_field s j)

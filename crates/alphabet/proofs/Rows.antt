@@ -1,8 +1,14 @@
 -- The bounds in a row, read part by part.
-use Rattle.std.proofs.Common.{◌≡◌, ℕ, List, get_or, take, drop, ℤ, Some, None, Option, refl, sym, ap, ap₂, ◌∙◌}
+use Rattle.std.proofs.Common.{◌≡◌, Bool, true, false, cond, subst, ℕ, List, get_or, take, drop, ℤ, Some, None, Option, refl, sym, ap, ap₂, ◌∙◌}
+use Rattle.std.specs.Bool.{then_some}
 use Rattle.std.proofs.lemmas.List.{get_or-drop}
 use Rattle.alphabet.specs.declared.bounds.Asked.{Asked}
 use Rattle.alphabet.specs.Sheets.{bounds_asking, asked_by, number_in, row_bounds}
+
+-- a value where a test passes
+pub some_if : {X : Type 0} (t u : Bool) (x : X) → t ≡ u → then_some t x ≡ cond u (Some x) None
+some_if {X = X} true u x e = subst (λ v. ◌≡◌ {A = Option X} (Some x) (cond v (Some x) None)) e refl
+some_if {X = X} false u x e = subst (λ v. ◌≡◌ {A = Option X} None (cond v (Some x) None)) e refl
 
 no_first : (low high : ℤ) (last : Option Asked) → bounds_asking low high None last ≡ None
 no_first low high (Some last) = refl

@@ -12,6 +12,7 @@ use crate::symbol::Symbol;
 use crate::{Alphabet, Bounds};
 use fixed::List;
 
+// These are the words of grammar's `word_of`, which lies above: a list is plainer than a crate below both that has no more than it.
 const OPERATORS: [&[u8]; 12] = [
     b"any",
     b"concat",
@@ -28,6 +29,7 @@ const OPERATORS: [&[u8]; 12] = [
 ];
 
 /// Whether the word is an operator word of the language. Such a word names no symbol.
+#[tactic(auto, unfolding(crate::specs::Names::operator_words))]
 pub fn is_operator(word: &[u8]) -> bool
     ensures { result ≡ isAmong operator_words word.now }
 {
@@ -102,6 +104,7 @@ impl Alphabet {
 }
 
 /// A word is found at a symbol just where it is that symbol's name.
+#[tactic(auto, using(crate::proofs::Distinct::found_named, crate::proofs::Distinct::named_found))]
 pub fn found_where_named()
     ensures { FoundWhereNamed }
 {}

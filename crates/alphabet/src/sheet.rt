@@ -5,7 +5,7 @@ ghost use Rattle.std.specs.Option.{option_map};
 ghost use Rattle.alphabet.specs.Carrying.{bounds_right};
 ghost use Rattle.alphabet.specs.Every.{every};
 ghost use Rattle.alphabet.specs.RightSheets.{AnswerTells};
-ghost use Rattle.alphabet.specs.Sheets.{layout_right, symbols_said, name_field as nameField, row_field as rowField};
+ghost use Rattle.alphabet.specs.Sheets.{layout_right, symbols_said};
 ghost use Rattle.alphabet.specs.Sheets.{letters_of, is_space, name_in as nameIn};
 ghost use Rattle.alphabet.specs.Sheets.{number_in, asked_by, row_bounds};
 ghost use Rattle.alphabet.specs.Sheets.{sheet_name, sheet_names, sheet_row, name_right, load_answer};
@@ -20,6 +20,7 @@ use crate::{Alphabet, Asked, Bounds, SheetFault, is_operator};
 use fixed::List;
 
 // Whether the numbers at the front are right, and the sheet as long as they ask for.
+#[tactic(auto, using(crate::proofs::Fields::too_short), unfolding(crate::specs::Sheets::layout_right))]
 fn is_laid_out(sheet: &[u8]) -> bool
     ensures { result ≡ layout_right sheet.now }
 {
@@ -49,6 +50,7 @@ fn is_blank(bytes: &[u8]) -> bool
 }
 
 // The name in the bytes, where they are letters padded with spaces and no operator word.
+#[tactic(auto, using(crate::proofs::Lettering::letters_fit, crate::proofs::Lettering::no_letters, crate::proofs::Lettering::not_padded, crate::proofs::Lettering::an_operator, crate::proofs::Lettering::a_name))]
 fn name_in(bytes: &[u8]) -> Option<&[u8]>
     ensures { option_map (λ x. x.now) result ≡ nameIn bytes.now }
 {
@@ -61,6 +63,7 @@ fn name_in(bytes: &[u8]) -> Option<&[u8]>
 }
 
 // The signed number that eight bytes spell, the highest first.
+#[tactic(auto, using(crate::proofs::Numbers::number_is))]
 fn number_in(bytes: &[u8; 8]) -> i64
     ensures { result ≡ number_in bytes.now }
 {
@@ -76,6 +79,7 @@ impl Bounds {
     }
 
     // The bounds in a row, where they are right.
+    #[tactic(auto, using(crate::proofs::Rows::first_wrong, crate::proofs::Rows::last_wrong))]
     fn in_row(row: &[u8]) -> Option<Bounds>
         requires { length row.now ≡ 18 }
         ensures { result ≡ row_bounds row.now }
@@ -114,27 +118,6 @@ impl<'a> Layout<'a> {
         self.sheet[0]
     }
 
-    // The bytes of the symbol's name.
-    fn name_field(&self, symbol: u8) -> &'a [u8]
-        requires { symbol < symbols_said self.now.sheet.now }
-        ensures { result.now ≡ nameField self.now.sheet.now symbol }
-    {
-        let width = self.sheet[1] as usize;
-        let from = 2 + symbol as usize * width;
-        &self.sheet[from..from + width]
-    }
-
-    // The bytes of the symbol's row.
-    fn row_field(&self, symbol: u8) -> &'a [u8]
-        requires { symbol < symbols_said self.now.sheet.now }
-        ensures value { result.now ≡ rowField self.now.sheet.now symbol }
-        ensures long { length result.now ≡ 18 }
-    {
-        let rows = 2 + self.sheet[0] as usize * self.sheet[1] as usize;
-        let from = rows + symbol as usize * 18;
-        &self.sheet[from..from + 18]
-    }
-
     // The symbol's name, where it is right. The names of the symbols before it are the earlier ones.
     fn name(&self, symbol: u8, earlier: &[Symbol]) -> Option<Name>
         requires within { symbol < symbols_said self.now.sheet.now }
@@ -142,7 +125,9 @@ impl<'a> Layout<'a> {
         requires few { length earlier.now ≤ 32 }
         ensures { option_map spelling result ≡ (if name_right self.now.sheet.now symbol then Some (sheet_name self.now.sheet.now symbol) else None) }
     {
-        let word = name_in(self.name_field(symbol))?;
+        let width = self.sheet[1] as usize;
+        let from = 2 + symbol as usize * width;
+        let word = name_in(&self.sheet[from..from + width])?;
         match index_of(earlier, word) {
             Some(_) => None,
             None => Some(Name::of(word)),
@@ -150,11 +135,14 @@ impl<'a> Layout<'a> {
     }
 
     // The symbol's bounds, where they are right.
+    #[tactic(auto, using(crate::proofs::Fields::row_ends, crate::proofs::Fields::length_row, crate::proofs::Fields::cut), unfolding(crate::specs::Sheets::row_field))]
     fn bounds(&self, symbol: u8) -> Option<Bounds>
         requires { symbol < symbols_said self.now.sheet.now }
         ensures { result ≡ sheet_row self.now.sheet.now symbol }
     {
-        Bounds::in_row(self.row_field(symbol))
+        let rows = 2 + self.sheet[0] as usize * self.sheet[1] as usize;
+        let from = rows + symbol as usize * 18;
+        Bounds::in_row(&self.sheet[from..from + 18])
     }
 }
 
@@ -186,6 +174,7 @@ impl Alphabet {
 }
 
 /// What an answer tells of a sheet is so, and only one answer tells what is so.
+#[tactic(auto, using(crate::proofs::Telling::answer_tells))]
 pub fn answer_tells()
     ensures { AnswerTells }
 {}

@@ -1,6 +1,7 @@
 //! Sheets that are loaded, and sheets with one fault, at each place where there can be one.
 
 use alphabet::{Alphabet, SheetFault, is_operator};
+use refusal::Refusal;
 
 // Three symbols, names four wide: up, Down and even.
 const SHEET: &[u8; 68] = b"\x03\x04\
@@ -220,13 +221,11 @@ fn largest() -> [u8; 1090] {
     let mut sheet = [0; 1090];
     sheet[0] = 32;
     sheet[1] = 16;
-    for i in 0..512usize {
-        let j = i / 16;
-        sheet[2 + i] = match i % 16 {
-            0 => b'A' + (j / 8) as u8,
-            15 => b'a' + (j % 8) as u8,
-            _ => b'm',
-        };
+    sheet[2..514].fill(b'm');
+    for j in 0..32u8 {
+        let at = 2 + 16 * j as usize;
+        sheet[at] = b'A' + j / 8;
+        sheet[at + 15] = b'a' + j % 8;
     }
     sheet
 }

@@ -19,6 +19,7 @@ pub struct Moisture {
 
 impl Moisture {
     /// The moisture of a reading, refused outside the range, as a NaN is.
+    #[tactic(auto, using(crate::proofs::Differences::zero_bits, crate::proofs::Differences::hundred_bits))]
     pub fn new(reading: f32) -> Result<Moisture, ValueFault>
         ensures { numbered (λ m. m.reading) result ≡ checked (reading_range reading) reading }
     {
@@ -45,10 +46,12 @@ impl Value for Moisture {
 
     ghost near = { first_of (Prim.search rules, Prim.grind (arith, Self.row.coded.inj)) };
 
+    #[tactic(auto, using(crate::proofs::Differences::zero_bits))]
     fn is_zero(&self) -> bool {
         self.reading == 0.0
     }
 
+    #[tactic(auto, using(crate::proofs::Differences::difference_number))]
     fn rank_to(&self, later: &Moisture) -> i64 {
         let step = later.reading - self.reading;
         let bits = step.to_bits();
