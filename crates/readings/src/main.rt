@@ -5,6 +5,7 @@
 ghost use Rattle.std.specs.Prelude.{◌<◌, IfSome};
 
 use query::Node;
+use refusal::Refusal;
 use std::io::{BufRead, BufReader};
 use text::read;
 

@@ -15,7 +15,7 @@ use Rattle.query.specs.Rules.{allows, parts_right, part_role, number_right, reco
 use Rattle.query.specs.Stands.{is_query, query_in}
 use Rattle.query.proofs.Standing.{is_query_sound, is_query_found}
 use Rattle.grammar.specs.Spelling.{is_symbol}
-use Rattle.grammar.proofs.Forward.{none_some}
+use Rattle.std.proofs.lemmas.Option.{none-some}
 use Rattle.text.specs.declared.fault.BindFault.{BindFault}
 use Rattle.text.specs.Binding.{symbol_of, numbered_by, bound, missing, name_fault, or_else, unknown, bind_fault, bound_sheet}
 use Rattle.text.specs.Bound.{bind_answer, bind_sheet}
@@ -64,7 +64,7 @@ module _ (names : List (List ℕ)) (text : List ℕ) where
     | inr g ↦
         let a = found_named names word j e in
         let b : name_at names j ≡ None = cond-false (ltb j (length names)) (Some (get_or names j [])) None (le-ltb j (length names) g) in
-        absurd (none_some word (sym b ∙ a))
+        absurd (none-some word (sym b ∙ a))
   ]
 
   numbered_is : (o : Option ℕ) (x : Node) → numbered_by o x ≡ record { kind = x.kind; number = (numbered_by o x).number; parts = x.parts; place = x.place; length = x.length }

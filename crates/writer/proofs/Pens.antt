@@ -1,9 +1,9 @@
 -- The parentheses that are open while a query is written, and its text record by record.
 use Rattle.std.proofs.Common.{◌≡◌, ℕ, zero, suc, ◌+◌, ◌*◌, ◌<◌, ◌≤◌, Bool, true, false, cond, ◌&&◌, List, [], ◌∷◌, ◌++◌, length, get_or, drop, Some, slice_get, sym, refl, ap, ◌∙◌, append_assoc, append-nil, arith}
+use Rattle.std.proofs.lemmas.Option.{none-some}
 use Rattle.std.proofs.lemmas.List.{drop_more, length-append}
-use Rattle.std.proofs.lemmas.Bool.{and_parts, eqb-true, false≢true}
+use Rattle.std.proofs.lemmas.Bool.{and_parts}
 use Rattle.query.specs.declared.node.Kind.{Kind}
-use Rattle.query.specs.declared.node.Kind.TheVariants.{Symbol, Any, Concat, Exact, Atleast, Atmost, In, Precisely, Noless, Nomore, And, Or, Inorder}
 use Rattle.query.specs.declared.node.Node.{Node}
 use Rattle.query.specs.declared.node.Role.{Role}
 use Rattle.query.specs.declared.node.Role.TheVariants.{Shape}
@@ -16,7 +16,7 @@ use Rattle.alphabet.specs.Every.{every}
 use Rattle.alphabet.specs.Names.{may_name}
 use Rattle.grammar.specs.Names.{operator_word}
 use Rattle.grammar.specs.Spelling.{is_symbol, takes_number}
-use Rattle.grammar.proofs.Forward.{none_some, some_same}
+use Rattle.grammar.proofs.Forward.{symbol_none, some_same}
 use Rattle.writer.specs.declared.Pen.{Pen}
 use Rattle.writer.specs.Writing.{numeral, head_text, record_text, text_of, parts_text}
 use Rattle.writer.specs.Laying.{open_now, Puts, gap, begun, shut_text, shut_stack, pushed, one_text, open_after, laid}
@@ -60,7 +60,7 @@ pub record Shutting (first now' : Pen) : Type 0 where
   pub sums : length bytes + length (open_now now') ≡ length (open_now first)
 
 shuts_here : (ms : List ℕ) → slice_get ms 0 ≡ Some 0 → ms ≡ 0 ∷ drop 1 ms
-shuts_here [] e = absurd (none_some 0 e)
+shuts_here [] e = absurd (none-some 0 e)
 shuts_here (m ∷ ms) e = ap (λ n. n ∷ ms) (some_same m 0 e)
 
 -- one parenthesis more
@@ -168,22 +168,6 @@ laying_more {names} {xs} {first} {p} {q} {i} d h a in_range lt e start room =
       small = omega arith;
       few = omega arith;
     }
-
-pub symbol_none : (k : Kind) (qs : Queries) → is_symbol k ≡ true → parts_right k (count qs) ≡ true → qs ≡ none
-symbol_none Symbol none s e = refl
-symbol_none Symbol (more q qs) s e = absurd (let z = eqb-true (suc (count qs)) 0 e in omega arith)
-symbol_none Any qs s e = absurd (false≢true s)
-symbol_none Concat qs s e = absurd (false≢true s)
-symbol_none Exact qs s e = absurd (false≢true s)
-symbol_none Atleast qs s e = absurd (false≢true s)
-symbol_none Atmost qs s e = absurd (false≢true s)
-symbol_none In qs s e = absurd (false≢true s)
-symbol_none Precisely qs s e = absurd (false≢true s)
-symbol_none Noless qs s e = absurd (false≢true s)
-symbol_none Nomore qs s e = absurd (false≢true s)
-symbol_none And qs s e = absurd (false≢true s)
-symbol_none Or qs s e = absurd (false≢true s)
-symbol_none Inorder qs s e = absurd (false≢true s)
 
 module _ (names : List (List ℕ)) where
   -- what comes behind a part

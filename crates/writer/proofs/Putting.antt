@@ -1,11 +1,10 @@
 -- Bytes put into a buffer, one after another.
-use Rattle.std.proofs.Common.{◌≡◌, ℕ, zero, suc, ◌+◌, ◌/◌, ◌%◌, ◌≤◌, Bool, true, false, cond, ◌&&◌, ltb, leb, List, [], ◌∷◌, ◌++◌, length, get_or, take, drop, sym, ap, ◌∙◌, subst, ap₂, append_assoc, add-zero, arith}
+use Rattle.std.proofs.Common.{◌≡◌, ℕ, zero, suc, ◌+◌, ◌/◌, ◌%◌, ◌≤◌, Bool, true, false, cond, ◌&&◌, ltb, leb, List, [], ◌∷◌, ◌++◌, length, get_or, take, drop, sym, ap, ◌∙◌, subst, ap₂, append_assoc, add-zero, arith, rules}
 use Rattle.std.proofs.lemmas.List.{length-append, length-take-le, take-append-drop, take_at, drop-drop, drop_at}
 use Rattle.std.proofs.lemmas.Bool.{and_parts, cond-true, cond-false, leb-true}
 use Rattle.alphabet.specs.Every.{every}
 use Rattle.alphabet.specs.Names.{may_name}
 use Rattle.query.specs.declared.node.Kind.{Kind}
-use Rattle.query.specs.declared.node.Kind.TheVariants.{Symbol, Any, Concat, Exact, Atleast, Atmost, In, Precisely, Noless, Nomore, And, Or, Inorder}
 use Rattle.grammar.specs.Names.{operator_word}
 use Rattle.grammar.specs.Spelling.{takes_number}
 use Rattle.writer.specs.Writing.{numeral, number_text, put_at, Wrote}
@@ -57,19 +56,7 @@ numeral_short n = go (ltb n 10) (ltb n 100)
     go false false = omega arith
 
 pub word_short : (k : Kind) → length (operator_word k) ≤ 9
-word_short Symbol = omega arith
-word_short Any = omega arith
-word_short Concat = omega arith
-word_short Exact = omega arith
-word_short Atleast = omega arith
-word_short Atmost = omega arith
-word_short In = omega arith
-word_short Precisely = omega arith
-word_short Noless = omega arith
-word_short Nomore = omega arith
-word_short And = omega arith
-word_short Or = omega arith
-word_short Inorder = omega arith
+word_short k = search rules
 
 pub number_none : (k : Kind) (n : ℕ) → takes_number k ≡ false → [] ≡ number_text k n
 number_none k n e = sym (cond-false (takes_number k) (32 ∷ numeral n) [] e)
