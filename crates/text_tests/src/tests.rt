@@ -2,6 +2,7 @@
 
 use alphabet::Alphabet;
 use query::{Kind, Node};
+use refusal::Refusal;
 use std::test::Fail;
 use text::{BoundShape, ReadFault, ReadShape, bind, read, write};
 
