@@ -1,8 +1,8 @@
 -- What is counted over the words agrees with what is kept in mind while they are read.
-use Rattle.std.proofs.Common.{◌≡◌, ℕ, zero, suc, pred, ◌+◌, Bool, true, false, cond, ◌&&◌, ltb, leb, List, [], ◌∷◌, ◌++◌, length, Some, None, Option, sym, refl, ap, ◌∙◌, subst, ap₂, arith}
+use Rattle.std.proofs.Common.{◌≡◌, ℕ, zero, suc, pred, ◌+◌, Bool, true, false, cond, ◌&&◌, ltb, leb, List, [], ◌∷◌, ◌++◌, length, Some, None, Option, sym, refl, ap, ◌∙◌, subst, ap₂, arith, rules}
+use Rattle.std.proofs.lemmas.Option.{none-some}
 use Rattle.std.proofs.lemmas.List.{length-append}
 use Rattle.query.specs.declared.node.Kind.{Kind}
-use Rattle.query.specs.declared.node.Kind.TheVariants.{Symbol, Any, Concat, Exact, Atleast, Atmost, In, Precisely, Noless, Nomore, And, Or, Inorder}
 use Rattle.query.specs.declared.node.Node.{Node}
 use Rattle.query.specs.declared.node.Role.{Role}
 use Rattle.query.specs.Rules.{allows}
@@ -16,7 +16,7 @@ use Rattle.grammar.specs.Names.{kind_named, natural}
 use Rattle.grammar.specs.Spelling.{Said, lparen, rparen, counts, names, Placed, said_by, is_symbol}
 use Rattle.grammar.specs.Limits.{Tally, nothing, note, note_all, is_in, level_of, number_fits, name_fits}
 use Rattle.grammar.specs.Machine.{State, state, level, first_need, after_part, change, counted, numbered, fresh, begun, begin, begin_at, open_part, leaf, head, count_need, count_at, close_need, close_at, move, start, number_right, room}
-use Rattle.grammar.proofs.Forward.{moves, moves_none, none_some, some_same, begins_inside}
+use Rattle.grammar.proofs.Forward.{moves, moves_none, some_same, begins_inside}
 
 -- a part of the level has begun, so its number was read
 abbrev Set : Need → Type 0
@@ -73,26 +73,14 @@ settled_known b [] s = tt
 settled_known b (v ∷ vs) s = (told_set b v.need v.kind s.0, s.1)
 
 told_first : (k : Kind) → Told (is_in k) (first_need k) k
-told_first Symbol = tt
-told_first Any = tt
-told_first Concat = tt
-told_first Exact = refl
-told_first Atleast = refl
-told_first Atmost = refl
-told_first In = refl
-told_first Precisely = refl
-told_first Noless = refl
-told_first Nomore = refl
-told_first And = tt
-told_first Or = tt
-told_first Inorder = tt
+told_first k = search rules
 
 set_after : (N M : Need) → after_part N ≡ Some M → Set M
-set_after Number M e = absurd (none_some M e)
+set_after Number M e = absurd (none-some M e)
 set_after One M e = subst Set (some_same Close M e) tt
 set_after Least M e = subst Set (some_same More M e) tt
 set_after More M e = subst Set (some_same More M e) tt
-set_after Close M e = absurd (none_some M e)
+set_after Close M e = absurd (none-some M e)
 
 pub change_length : (f : Node → Node) (xs : List Node) (i : ℕ) → length (change f xs i) ≡ length xs
 change_length f [] i = refl
@@ -108,7 +96,7 @@ record Same (S U : State) : Type 0 where
 
 begun_same : (o : Option Need) (v : Level) (vs : List Level) (out : List Node) (r : Role) (U : State) → ((M : Need) → o ≡ Some M → Set M) → Settled vs → begun o v vs out ≡ Some (r, U) →
     (length U.out ≡ length out) × (length U.levels ≡ suc (length vs)) × Settled U.levels
-begun_same None v vs out r U m s e = absurd (none_some (r, U) e)
+begun_same None v vs out r U m s e = absurd (none-some (r, U) e)
 begun_same (Some M) v vs out r U m s e =
     let same = some_same _ (r, U) e in (
       ap (λ b. length b.1.out) (sym same) ∙ change_length counted out v.node,
@@ -123,8 +111,8 @@ begin_same b S r U k e = go S.point S.levels k e
     go Start vs k e =
         let same = some_same (_, state Inside vs S.out) (r, U) e in
         record { outs = ap (λ b. length b.1.out) (sym same); deep = ap (λ b. length b.1.levels) (sym same); flat = refl; calm = subst (λ (b : Role × State). Settled b.1.levels) same k }
-    go (Opened o) vs k e = absurd (none_some (r, U) e)
-    go Inside [] k e = absurd (none_some (r, U) e)
+    go (Opened o) vs k e = absurd (none-some (r, U) e)
+    go Inside [] k e = absurd (none-some (r, U) e)
     go Inside (v ∷ vs) k e =
         let h = begun_same (after_part v.need) v vs S.out r U (set_after v.need) k.1 e in
         record { outs = h.0; deep = h.1; flat = refl; calm = h.2 }
@@ -133,7 +121,7 @@ open_agrees : (t : Tally) (S T : State) → Agrees t S → open_part (begin S) �
 open_agrees t S T a e = go (begin S) refl e
   where
     go : (o : Option (Role × State)) → begin S ≡ o → open_part o ≡ Some T → Agrees (note t lparen) T
-    go None b e = absurd (none_some T e)
+    go None b e = absurd (none-some T e)
     go (Some u) b e =
         let h = begin_same t.after_in S u.0 u.1 a.known b in
         subst (Agrees (note t lparen)) (some_same _ T e)
@@ -143,7 +131,7 @@ leaf_agrees : (k : Kind) (p l : ℕ) (t : Tally) (S T : State) → Agrees t S �
 leaf_agrees k p l t S T a e = go (begin S) refl e
   where
     go : (o : Option (Role × State)) → begin S ≡ o → leaf k p l o ≡ Some T → Agrees (note t (names k p l)) T
-    go None b e = absurd (none_some T e)
+    go None b e = absurd (none-some T e)
     go (Some u) b e = stand (allows u.0 k) e
       where
         stand : (s : Bool) → cond s (Some (state u.1.point u.1.levels (u.1.out ++ fresh k p l ∷ []))) None ≡ Some T → Agrees (note t (names k p l)) T
@@ -159,13 +147,13 @@ leaf_agrees k p l t S T a e = go (begin S) refl e
               depth_is = subst (λ pt. depth_at pt u.1.levels ≡ t.open_now) i (h.deep ∙ sym h.flat ∙ a.depth_is);
               known = subst (λ pt. Known (is_in k) pt u.1.levels) i (settled_known (is_in k) u.1.levels h.calm);
             })
-        stand false e = absurd (none_some T e)
+        stand false e = absurd (none-some T e)
 
 head_agrees : (k : Kind) (p l : ℕ) (t : Tally) (S T : State) → Agrees t S → head k p l S.point S.levels S.out ≡ Some T → Agrees (note t (names k p l)) T
 head_agrees k p l t S T a e = go S.point a.depth_is a.known e
   where
     go : (pt : Point) → depth_at pt S.levels ≡ t.open_now → Known t.after_in pt S.levels → head k p l pt S.levels S.out ≡ Some T → Agrees (note t (names k p l)) T
-    go Start d w e = absurd (none_some T e)
+    go Start d w e = absurd (none-some T e)
     go (Opened r) d w e = stand (allows r k) e
       where
         stand : (s : Bool) → cond s (Some (state Inside (level k (first_need k) (length S.out) ∷ S.levels) (S.out ++ fresh k p l ∷ []))) None ≡ Some T → Agrees (note t (names k p l)) T
@@ -173,20 +161,20 @@ head_agrees k p l t S T a e = go S.point a.depth_is a.known e
             let z = length-append S.out (fresh k p l ∷ []) in
             let ar = a.records_are in
             subst (Agrees (note t (names k p l))) (some_same _ T e) (record { records_are = z ∙ omega arith; depth_is = d; known = (told_first k, w) })
-        stand false e = absurd (none_some T e)
-    go Inside d w e = absurd (none_some T e)
+        stand false e = absurd (none-some T e)
+    go Inside d w e = absurd (none-some T e)
 
 count_agrees : (n : ℕ) (N : Need) (t : Tally) (v : Level) (vs : List Level) (out : List Node) (T : State) → length out ≡ t.named → suc (length vs) ≡ t.open_now → Settled vs → count_need N n v vs out ≡ Some T → Agrees (note t (counts n)) T
 count_agrees n Number t v vs out T o d s e = subst (Agrees (note t (counts n))) (some_same _ T e) (record { records_are = change_length (numbered n) out v.node ∙ o; depth_is = d; known = (tt, s) })
-count_agrees n One t v vs out T o d s e = absurd (none_some T e)
-count_agrees n Least t v vs out T o d s e = absurd (none_some T e)
-count_agrees n More t v vs out T o d s e = absurd (none_some T e)
-count_agrees n Close t v vs out T o d s e = absurd (none_some T e)
+count_agrees n One t v vs out T o d s e = absurd (none-some T e)
+count_agrees n Least t v vs out T o d s e = absurd (none-some T e)
+count_agrees n More t v vs out T o d s e = absurd (none-some T e)
+count_agrees n Close t v vs out T o d s e = absurd (none-some T e)
 
 close_agrees : (N : Need) (t : Tally) (vs : List Level) (out : List Node) (T : State) → length out ≡ t.named → suc (length vs) ≡ t.open_now → Settled vs → close_need N vs out ≡ Some T → Agrees (note t rparen) T
-close_agrees Number t vs out T o d s e = absurd (none_some T e)
-close_agrees One t vs out T o d s e = absurd (none_some T e)
-close_agrees Least t vs out T o d s e = absurd (none_some T e)
+close_agrees Number t vs out T o d s e = absurd (none-some T e)
+close_agrees One t vs out T o d s e = absurd (none-some T e)
+close_agrees Least t vs out T o d s e = absurd (none-some T e)
 close_agrees More t vs out T o d s e = subst (Agrees (note t rparen)) (some_same _ T e) (record { records_are = o; depth_is = ap pred d; known = settled_known false vs s })
 close_agrees Close t vs out T o d s e = subst (Agrees (note t rparen)) (some_same _ T e) (record { records_are = o; depth_is = ap pred d; known = settled_known false vs s })
 
@@ -196,16 +184,16 @@ move_agrees t S T lparen a e = open_agrees t S T a e
 move_agrees t S T rparen a e = go S.point S.levels a.depth_is a.known e
   where
     go : (pt : Point) (vs : List Level) → depth_at pt vs ≡ t.open_now → Known t.after_in pt vs → close_at pt vs S.out ≡ Some T → Agrees (note t rparen) T
-    go Start vs d k e = absurd (none_some T e)
-    go (Opened r) vs d k e = absurd (none_some T e)
-    go Inside [] d k e = absurd (none_some T e)
+    go Start vs d k e = absurd (none-some T e)
+    go (Opened r) vs d k e = absurd (none-some T e)
+    go Inside [] d k e = absurd (none-some T e)
     go Inside (v ∷ vs) d k e = close_agrees v.need t vs S.out T a.records_are d k.1 e
 move_agrees t S T (counts n) a e = go S.point S.levels a.depth_is a.known e
   where
     go : (pt : Point) (vs : List Level) → depth_at pt vs ≡ t.open_now → Known t.after_in pt vs → count_at n pt vs S.out ≡ Some T → Agrees (note t (counts n)) T
-    go Start vs d k e = absurd (none_some T e)
-    go (Opened r) vs d k e = absurd (none_some T e)
-    go Inside [] d k e = absurd (none_some T e)
+    go Start vs d k e = absurd (none-some T e)
+    go (Opened r) vs d k e = absurd (none-some T e)
+    go Inside [] d k e = absurd (none-some T e)
     go Inside (v ∷ vs) d k e = count_agrees n v.need t v vs S.out T a.records_are d k.1 e
 move_agrees t S T (names k p l) a e = go (is_symbol k) e
   where
@@ -218,7 +206,7 @@ moves_agree [] t S T a e = subst (Agrees t) (some_same S T e) a
 moves_agree (w ∷ ws) t S T a e = go (move S w) refl e (λ U b. moves_agree ws (note t w) U T b)
   where
     go : (o : Option State) → move S w ≡ o → moves ws o ≡ Some T → ((U : State) → Agrees (note t w) U → moves ws (Some U) ≡ Some T → Agrees (note_all (note t w) ws) T) → Agrees (note_all (note t w) ws) T
-    go None m e rest = absurd (none_some T (sym (moves_none ws) ∙ e))
+    go None m e rest = absurd (none-some T (sym (moves_none ws) ∙ e))
     go (Some U) m e rest = rest U (move_agrees t S U w a m) e
 
 pub start_agrees : Agrees nothing start
@@ -226,10 +214,10 @@ start_agrees = record { records_are = refl; depth_is = refl; known = tt }
 
 count_told : (n : ℕ) (N : Need) (b : Bool) (v : Level) (vs : List Level) (out : List Node) (T : State) → Told b N v.kind → count_need N n v vs out ≡ Some T → is_in v.kind ≡ b
 count_told n Number b v vs out T k e = sym k
-count_told n One b v vs out T k e = absurd (none_some T e)
-count_told n Least b v vs out T k e = absurd (none_some T e)
-count_told n More b v vs out T k e = absurd (none_some T e)
-count_told n Close b v vs out T k e = absurd (none_some T e)
+count_told n One b v vs out T k e = absurd (none-some T e)
+count_told n Least b v vs out T k e = absurd (none-some T e)
+count_told n More b v vs out T k e = absurd (none-some T e)
+count_told n Close b v vs out T k e = absurd (none-some T e)
 
 -- a number is checked alike by what is kept in mind and by what is counted
 pub number_same : (t : Tally) (S T : State) (w : Placed) → Agrees t S → move S (said_by w) ≡ Some T → number_right S w.1 ≡ number_fits t w.1
@@ -240,9 +228,9 @@ number_same t S T w a e = go w.1 e
     go (number bs) e = at S.point S.levels a.known e
       where
         at : (pt : Point) (vs : List Level) → Known t.after_in pt vs → count_at (natural bs) pt vs S.out ≡ Some T → number_right (state pt vs S.out) (number bs) ≡ number_fits t (number bs)
-        at Start vs k e = absurd (none_some T e)
-        at (Opened r) vs k e = absurd (none_some T e)
-        at Inside [] k e = absurd (none_some T e)
+        at Start vs k e = absurd (none-some T e)
+        at (Opened r) vs k e = absurd (none-some T e)
+        at Inside [] k e = absurd (none-some T e)
         at Inside (v ∷ vs) k e = ap (λ b. number_fits (record { named = 0; open_now = 0; after_in = b }) (number bs)) (count_told (natural bs) v.need t.after_in v vs S.out T k.0 e)
     go opens e = refl
     go closes e = refl
@@ -252,7 +240,7 @@ begin_flat S u e = go S.point e
   where
     go : (pt : Point) → begin_at pt S.levels S.out ≡ Some u → depth_at pt S.levels ≡ length S.levels
     go Start e = refl
-    go (Opened r) e = absurd (none_some u e)
+    go (Opened r) e = absurd (none-some u e)
     go Inside e = refl
 
 -- the level of a name is one more than the levels that are open around it
@@ -260,13 +248,13 @@ name_level : (k : Kind) (p l : ℕ) (S T : State) → move S (names k p l) ≡ S
 name_level k p l S T e = go (is_symbol k) e
   where
     leaf_level : (o : Option (Role × State)) → begin S ≡ o → leaf k p l o ≡ Some T → depth S + 1 ≡ suc (length S.levels)
-    leaf_level None b e = absurd (none_some T e)
+    leaf_level None b e = absurd (none-some T e)
     leaf_level (Some u) b e = let z = begin_flat S u b in omega arith
 
     head_level : (pt : Point) → head k p l pt S.levels S.out ≡ Some T → depth_at pt S.levels + 0 ≡ suc (length S.levels)
-    head_level Start e = absurd (none_some T e)
+    head_level Start e = absurd (none-some T e)
     head_level (Opened r) e = omega arith
-    head_level Inside e = absurd (none_some T e)
+    head_level Inside e = absurd (none-some T e)
 
     go : (s : Bool) → cond s (leaf k p l (begin S)) (head k p l S.point S.levels S.out) ≡ Some T → depth S + cond s 1 0 ≡ suc (length S.levels)
     go true e = leaf_level (begin S) refl e

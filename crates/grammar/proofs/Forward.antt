@@ -1,10 +1,12 @@
 -- The words of a query are read, one after another, into its records.
-use Rattle.std.proofs.Common.{◌≡◌, ℕ, zero, suc, ◌+◌, ◌≤◌, min, Bool, true, false, cond, ◌&&◌, eqb, ltb, List, [], ◌∷◌, ◌++◌, length, Some, None, Option, sym, refl, ap, ◌∙◌, subst, ap₂, append_assoc, append-nil, zero-add, arith}
+use Rattle.std.proofs.Common.{◌≡◌, ℕ, zero, suc, ◌+◌, ◌≤◌, min, Bool, true, false, cond, ◌&&◌, eqb, ltb, List, [], ◌∷◌, ◌++◌, length, Some, None, Option, sym, refl, ap, ◌∙◌, subst, ap₂, append_assoc, append-nil, zero-add, arith, rules}
+use Rattle.std.proofs.lemmas.Option.{none-some}
 use Rattle.std.proofs.lemmas.Bool.{and_parts, cond-true, cond-false, eqb-true, ltb-true, false≢true}
 use Rattle.query.specs.declared.node.Kind.{Kind}
 use Rattle.query.specs.declared.node.Kind.TheVariants.{Symbol, Any, Concat, Exact, Atleast, Atmost, In, Precisely, Noless, Nomore, And, Or, Inorder}
 use Rattle.query.specs.declared.node.Node.{Node}
 use Rattle.query.specs.declared.node.Role.{Role}
+use Rattle.query.proofs.Alike.{same_kind_is}
 use Rattle.query.specs.Tree.{Query, node, Queries, none, more, count}
 use Rattle.query.specs.Rules.{allows, part_role, parts_right}
 use Rattle.grammar.specs.declared.types.Need.{Need}
@@ -32,9 +34,6 @@ moves_append (x ∷ xs) ys o = moves_append xs ys (move_on o x)
 pub moves_none : (ws : List Said) → moves ws None ≡ None
 moves_none [] = refl
 moves_none (w ∷ ws) = moves_none ws
-
-pub none_some : {A : Type 0} (x : A) → ◌≡◌ {A = Option A} None (Some x) → ⊥
-none_some x e = let z : ◌≡◌ {A = ℕ} 0 1 = cc in omega arith
 
 pub some_same : {A : Type 0} (x y : A) → ◌≡◌ {A = Option A} (Some x) (Some y) → x ≡ y
 some_same x y e = cc
@@ -76,36 +75,21 @@ abbrev part_need : Kind → Need
 part_need k = cond (takes_number k) One (first_need k)
 
 number_first : (k : Kind) → takes_number k ≡ true → first_need k ≡ Number
-number_first Symbol e = absurd (false≢true e)
-number_first Any e = absurd (false≢true e)
-number_first Concat e = absurd (false≢true e)
-number_first Exact e = refl
-number_first Atleast e = refl
-number_first Atmost e = refl
-number_first In e = refl
-number_first Precisely e = refl
-number_first Noless e = refl
-number_first Nomore e = refl
-number_first And e = absurd (false≢true e)
-number_first Or e = absurd (false≢true e)
-number_first Inorder e = absurd (false≢true e)
+number_first k e = search rules
+
+pub symbol_is : (k : Kind) → is_symbol k ≡ true → k ≡ Symbol
+symbol_is k s = same_kind_is k Symbol s
+
+no_parts : (qs : Queries) → eqb (count qs) 0 ≡ true → qs ≡ none
+no_parts none e = refl
+no_parts (more q qs) e = absurd (let z = eqb-true (suc (count qs)) 0 e in omega arith)
 
 -- what a symbol has: no parts, and 255 for its number
-pub symbol_has : (k : Kind) (n : ℕ) (qs : Queries) → is_symbol k ≡ true → parts_right k (count qs) ≡ true → number_free k n ≡ true → (n ≡ 255) × (qs ≡ none)
-symbol_has Symbol n none s e f = (eqb-true n 255 f, refl)
-symbol_has Symbol n (more q qs) s e f = absurd (let z = eqb-true (suc (count qs)) 0 e in omega arith)
-symbol_has Any n qs s e f = absurd (false≢true s)
-symbol_has Concat n qs s e f = absurd (false≢true s)
-symbol_has Exact n qs s e f = absurd (false≢true s)
-symbol_has Atleast n qs s e f = absurd (false≢true s)
-symbol_has Atmost n qs s e f = absurd (false≢true s)
-symbol_has In n qs s e f = absurd (false≢true s)
-symbol_has Precisely n qs s e f = absurd (false≢true s)
-symbol_has Noless n qs s e f = absurd (false≢true s)
-symbol_has Nomore n qs s e f = absurd (false≢true s)
-symbol_has And n qs s e f = absurd (false≢true s)
-symbol_has Or n qs s e f = absurd (false≢true s)
-symbol_has Inorder n qs s e f = absurd (false≢true s)
+pub symbol_none : (k : Kind) (qs : Queries) → is_symbol k ≡ true → parts_right k (count qs) ≡ true → qs ≡ none
+symbol_none k qs s e = no_parts qs (ap (λ j. parts_right j (count qs)) (sym (symbol_is k s)) ∙ e)
+
+symbol_255 : (k : Kind) (n : ℕ) → is_symbol k ≡ true → number_free k n ≡ true → n ≡ 255
+symbol_255 k n s f = eqb-true n 255 (ap (λ j. number_free j n) (sym (symbol_is k s)) ∙ f)
 
 -- what a parenthesis wants after so many parts
 abbrev then_parts : Option Need → ℕ → Option Need
@@ -174,7 +158,7 @@ number_moves k n p l vs xs ws s free = go (takes_number k) refl
         ∙ ap₂ (λ N i. moves ws (Some (state Inside (level k N (length xs) ∷ vs) (xs ++ headed k i p l ∷ [])))) (sym (cond-false (takes_number k) One (first_need k) e)) z
 
 begun_inside : (o : Option Need) (v : Level) (vs : List Level) (out : List Node) (r : Role) (T : State) → begun o v vs out ≡ Some (r, T) → T.point ≡ Inside
-begun_inside None v vs out r T e = absurd (none_some (r, T) e)
+begun_inside None v vs out r T e = absurd (none-some (r, T) e)
 begun_inside (Some N) v vs out r T e = ap (λ b. b.1.point) (sym (some_same _ (r, T) e))
 
 -- once a part has begun, the reading stands inside
@@ -183,8 +167,8 @@ begins_inside S r T e = go S.point S.levels e
   where
     go : (pt : Point) (vs : List Level) → begin_at pt vs S.out ≡ Some (r, T) → T.point ≡ Inside
     go Start vs e = ap (λ b. b.1.point) (sym (some_same _ (r, T) e))
-    go (Opened o) vs e = absurd (none_some (r, T) e)
-    go Inside [] e = absurd (none_some (r, T) e)
+    go (Opened o) vs e = absurd (none-some (r, T) e)
+    go Inside [] e = absurd (none-some (r, T) e)
     go Inside (v ∷ vs) e = begun_inside (after_part v.need) v vs S.out r T e
 
 -- the parts of a parenthesis that stands open are read
@@ -210,10 +194,9 @@ mutual
           moves (cond (is_symbol k) (names k p l ∷ ws) (lparen ∷ names k p l ∷ number_words k n (spell_each qs (rparen ∷ ws)))) (Some S)
           ≡ moves ws (Some (grown T (written (node k n p l qs))))
       go true s a pr free parts =
-          let h = symbol_has k n qs s pr free in
           ap (λ w. moves w (Some S)) (cond-true (is_symbol k) (names k p l ∷ ws) _ s)
           ∙ ap (moves ws) (cond-true (is_symbol k) (leaf k p l (begin S)) (head k p l S.point S.levels S.out) s ∙ ap (leaf k p l) b ∙ cond-true (allows r k) _ None a)
-          ∙ ap₂ (λ i rs. moves ws (Some (grown T (record { kind = k; number = i; parts = min (count rs) 255; place = p; length = l } ∷ written_each rs)))) (cond-true (is_symbol k) 255 0 s ∙ sym h.0) (sym h.1)
+          ∙ ap₂ (λ i rs. moves ws (Some (grown T (record { kind = k; number = i; parts = min (count rs) 255; place = p; length = l } ∷ written_each rs)))) (cond-true (is_symbol k) 255 0 s ∙ sym (symbol_255 k n s free)) (sym (symbol_none k qs s pr))
       go false s a pr free parts =
           let c = closes_after k (count qs) s pr in
           let rest = spell_each qs (rparen ∷ ws) in
@@ -246,7 +229,7 @@ mutual
           ≡ moves ws (Some (state Inside (level k M (length xs) ∷ vs) (xs ++ bump (count qs) (counted x) ∷ (zs ++ written_each qs))))) →
           moves (spell q (spell_each qs ws)) (Some (state Inside (level k N (length xs) ∷ vs) (xs ++ x ∷ ys)))
           ≡ moves ws (Some (state Inside (level k M (length xs) ∷ vs) (xs ++ bump (count qs) (counted x) ∷ (ys ++ (written q ++ written_each qs)))))
-      go None is e one rest = absurd (none_some M e)
+      go None is e one rest = absurd (none-some M e)
       go (Some O) is e one rest =
           let i = length xs in
           one (state Inside (level k O i ∷ vs) (change counted (xs ++ x ∷ ys) i)) (ap (λ o. begun o (level k N i) vs (xs ++ x ∷ ys)) is)

@@ -1,5 +1,6 @@
 -- The words that can be read to the end are those of the queries, and whatever was read can be continued to such.
 use Rattle.std.proofs.Common.{◌≡◌, ℕ, suc, Bool, true, false, cond, eqb, ltb, List, [], ◌∷◌, ◌++◌, length, Some, None, Option, sym, refl, ap, ◌∙◌, subst, arith}
+use Rattle.std.proofs.lemmas.Option.{none-some}
 use Rattle.std.proofs.lemmas.Bool.{and_from, cond-true, eqb-true, eq-eqb, lt-ltb, false≢true}
 use Rattle.query.specs.declared.node.Kind.{Kind}
 use Rattle.query.specs.declared.node.Kind.TheVariants.{Symbol, Any, Concat, Exact, Atleast, Atmost, In, Precisely, Noless, Nomore, And, Or, Inorder}
@@ -15,7 +16,7 @@ use Rattle.grammar.specs.declared.types.Point.{Point}
 use Rattle.grammar.specs.declared.types.Point.TheVariants.{Start, Opened, Inside}
 use Rattle.grammar.specs.Spelling.{Said, lparen, rparen, counts, names, is_symbol, spell, spell_each, number_free, formed, formed_each, Follows, Begins}
 use Rattle.grammar.specs.Machine.{State, state, level, first_need, after_part, fresh, begun, begin, begin_at, open_part, leaf, head, count_need, count_at, close_need, close_at, move, start, done, done_at}
-use Rattle.grammar.proofs.Forward.{moves, moves_append, moves_none, none_some, some_same, begins_inside, written, forward}
+use Rattle.grammar.proofs.Forward.{symbol_is, moves, moves_append, moves_none, some_same, begins_inside, written, forward}
 
 -- so many parts are what is still wanted
 abbrev takes : Need → ℕ → Bool
@@ -78,7 +79,7 @@ levels_of {T} {r} {r'} {U} e = ap (λ b. b.1.levels) (some_same (r, U) (r', T) e
 
 begun_back : (N : Need) (v : Level) (vs : List Level) (out : List Node) (r : Role) (T : State) (q : Query) (ws rest : List Said) → begun (after_part N) v vs out ≡ Some (r, T) →
     formed r q ≡ true → ws ≡ spell q rest → Laid T.levels rest → Filled v.kind N (Laid vs) ws
-begun_back Number v vs out r T q ws rest b f e h = absurd (none_some (r, T) b)
+begun_back Number v vs out r T q ws rest b f e h = absurd (none-some (r, T) b)
 begun_back One v vs out r T q ws rest b f e h =
     more_filled v.kind One Close (Laid vs) q ws rest (λ m z. eq-eqb (suc m) 1 (ap suc (eqb-true m 0 z))) (λ n l. refl) (λ n l. refl)
     (subst (λ o. formed o q ≡ true) (sym (role_of b)) f) e (subst (λ us. Laid us rest) (sym (levels_of b)) h)
@@ -88,7 +89,7 @@ begun_back Least v vs out r T q ws rest b f e h =
 begun_back More v vs out r T q ws rest b f e h =
     more_filled v.kind More More (Laid vs) q ws rest (λ m z. refl) (λ n l. refl) (λ n l. refl)
     (subst (λ o. formed o q ≡ true) (sym (role_of b)) f) e (subst (λ us. Laid us rest) (sym (levels_of b)) h)
-begun_back Close v vs out r T q ws rest b f e h = absurd (none_some (r, T) b)
+begun_back Close v vs out r T q ws rest b f e h = absurd (none-some (r, T) b)
 
 -- a query stands where a part begins
 part_back : (S : State) (r : Role) (T : State) (q : Query) (ws rest : List Said) → begin S ≡ Some (r, T) →
@@ -97,15 +98,15 @@ part_back S r T q ws rest b f e h = go S.point S.levels b
   where
     go : (pt : Point) (vs : List Level) → begin_at pt vs S.out ≡ Some (r, T) → LaidAt pt vs ws
     go Start vs b = (q, rest, subst (λ o. formed o q ≡ true) (sym (role_of b)) f, e, subst (λ us. Laid us rest) (sym (levels_of b)) h)
-    go (Opened o) vs b = absurd (none_some (r, T) b)
-    go Inside [] b = absurd (none_some (r, T) b)
+    go (Opened o) vs b = absurd (none-some (r, T) b)
+    go Inside [] b = absurd (none-some (r, T) b)
     go Inside (v ∷ vs) b = begun_back v.need v vs S.out r T q ws rest b f e h
 
 open_back : (S T : State) (ws : List Said) → open_part (begin S) ≡ Some T → LaidIn T ws → LaidIn S (lparen ∷ ws)
 open_back S T ws e h = go (begin S) refl e
   where
     go : (o : Option (Role × State)) → begin S ≡ o → open_part o ≡ Some T → LaidIn S (lparen ∷ ws)
-    go None b e = absurd (none_some T e)
+    go None b e = absurd (none-some T e)
     go (Some u) b e =
         let l : LaidAt (Opened u.0) u.1.levels ws = subst (λ U. LaidIn U ws) (sym (some_same _ T e)) h in
         part_back S u.0 u.1 l.0 (lparen ∷ ws) l.1 b l.2 l.3 l.4
@@ -117,19 +118,9 @@ node_formed k n p l qs r a pr free f = and_from _ _ (and_from _ _ a pr) (and_fro
 
 symbol_formed : (k : Kind) (p l : ℕ) (r : Role) → is_symbol k ≡ true → allows r k ≡ true → formed r (node k 255 p l none) ≡ true
 unfolding formed
-symbol_formed Symbol p l r s a = node_formed Symbol 255 p l none r a refl refl refl
-symbol_formed Any p l r s a = absurd (false≢true s)
-symbol_formed Concat p l r s a = absurd (false≢true s)
-symbol_formed Exact p l r s a = absurd (false≢true s)
-symbol_formed Atleast p l r s a = absurd (false≢true s)
-symbol_formed Atmost p l r s a = absurd (false≢true s)
-symbol_formed In p l r s a = absurd (false≢true s)
-symbol_formed Precisely p l r s a = absurd (false≢true s)
-symbol_formed Noless p l r s a = absurd (false≢true s)
-symbol_formed Nomore p l r s a = absurd (false≢true s)
-symbol_formed And p l r s a = absurd (false≢true s)
-symbol_formed Or p l r s a = absurd (false≢true s)
-symbol_formed Inorder p l r s a = absurd (false≢true s)
+symbol_formed k p l r s a =
+    let e : Symbol ≡ k = sym (symbol_is k s) in
+    subst (λ j. formed r (node j 255 p l none) ≡ true) e (node_formed Symbol 255 p l none r (subst (λ j. allows r j ≡ true) (symbol_is k s) a) refl refl refl)
 
 symbol_spelt : (k : Kind) (n p l : ℕ) (qs : Queries) (ws : List Said) → is_symbol k ≡ true → names k p l ∷ ws ≡ spell (node k n p l qs) ws
 unfolding spell
@@ -139,7 +130,7 @@ leaf_back : (k : Kind) (p l : ℕ) (S T : State) (ws : List Said) → is_symbol 
 leaf_back k p l S T ws s e h = go (begin S) refl e
   where
     go : (o : Option (Role × State)) → begin S ≡ o → leaf k p l o ≡ Some T → LaidIn S (names k p l ∷ ws)
-    go None b e = absurd (none_some T e)
+    go None b e = absurd (none-some T e)
     go (Some u) b e = stand (allows u.0 k) refl e
       where
         stand : (t : Bool) → allows u.0 k ≡ t → cond t (Some (state u.1.point u.1.levels (u.1.out ++ fresh k p l ∷ []))) None ≡ Some T → LaidIn S (names k p l ∷ ws)
@@ -147,7 +138,7 @@ leaf_back k p l S T ws s e h = go (begin S) refl e
             let laid : LaidAt u.1.point u.1.levels ws = subst (λ U. LaidIn U ws) (sym (some_same _ T e)) h in
             part_back S u.0 u.1 (node k 255 p l none) (names k p l ∷ ws) ws b (symbol_formed k p l u.0 s a) (symbol_spelt k 255 p l none ws s)
             (subst (λ pt. LaidAt pt u.1.levels ws) (begins_inside S u.0 u.1 b) laid)
-        stand false a e = absurd (none_some T e)
+        stand false a e = absurd (none-some T e)
 
 -- an operator word and what its parenthesis wants are a query without the parenthesis in front
 head_filled : (k : Kind) (p l : ℕ) (r : Role) (vs : List Level) (ws : List Said) → is_symbol k ≡ false → allows r k ≡ true → Filled k (first_need k) (Laid vs) ws → LaidAt (Opened r) vs (names k p l ∷ ws)
@@ -170,28 +161,28 @@ head_back : (k : Kind) (p l : ℕ) (S T : State) (ws : List Said) → is_symbol 
 head_back k p l S T ws s e h = go S.point e
   where
     go : (pt : Point) → head k p l pt S.levels S.out ≡ Some T → LaidAt pt S.levels (names k p l ∷ ws)
-    go Start e = absurd (none_some T e)
+    go Start e = absurd (none-some T e)
     go (Opened r) e = stand (allows r k) refl e
       where
         stand : (t : Bool) → allows r k ≡ t → cond t (Some (state Inside (level k (first_need k) (length S.out) ∷ S.levels) (S.out ++ fresh k p l ∷ []))) None ≡ Some T → LaidAt (Opened r) S.levels (names k p l ∷ ws)
         stand true a e = head_filled k p l r S.levels ws s a (subst (λ U. LaidIn U ws) (sym (some_same _ T e)) h)
-        stand false a e = absurd (none_some T e)
-    go Inside e = absurd (none_some T e)
+        stand false a e = absurd (none-some T e)
+    go Inside e = absurd (none-some T e)
 
 count_back : (n : ℕ) (N : Need) (v : Level) (vs : List Level) (out : List Node) (T : State) (ws : List Said) → count_need N n v vs out ≡ Some T → LaidIn T ws → Filled v.kind N (Laid vs) (counts n ∷ ws)
 count_back n Number v vs out T ws e h =
     let f : Filled v.kind One (Laid vs) ws = subst (λ U. LaidIn U ws) (sym (some_same _ T e)) h in
     record { qs = f.qs; n = n; rest = f.rest; right = f.right; all = f.all; words = ap (λ w. counts n ∷ w) f.words; next = f.next }
-count_back n One v vs out T ws e h = absurd (none_some T e)
-count_back n Least v vs out T ws e h = absurd (none_some T e)
-count_back n More v vs out T ws e h = absurd (none_some T e)
-count_back n Close v vs out T ws e h = absurd (none_some T e)
+count_back n One v vs out T ws e h = absurd (none-some T e)
+count_back n Least v vs out T ws e h = absurd (none-some T e)
+count_back n More v vs out T ws e h = absurd (none-some T e)
+count_back n Close v vs out T ws e h = absurd (none-some T e)
 
 close_back : (N : Need) (k : Kind) (vs : List Level) (out : List Node) (T : State) (ws : List Said) → close_need N vs out ≡ Some T → LaidIn T ws → Filled k N (Laid vs) (rparen ∷ ws)
 unfolding spell formed
-close_back Number k vs out T ws e h = absurd (none_some T e)
-close_back One k vs out T ws e h = absurd (none_some T e)
-close_back Least k vs out T ws e h = absurd (none_some T e)
+close_back Number k vs out T ws e h = absurd (none-some T e)
+close_back One k vs out T ws e h = absurd (none-some T e)
+close_back Least k vs out T ws e h = absurd (none-some T e)
 close_back More k vs out T ws e h = record { qs = none; n = 0; rest = ws; right = refl; all = refl; words = refl; next = subst (λ U. LaidIn U ws) (sym (some_same _ T e)) h }
 close_back Close k vs out T ws e h = record { qs = none; n = 0; rest = ws; right = refl; all = refl; words = refl; next = subst (λ U. LaidIn U ws) (sym (some_same _ T e)) h }
 
@@ -201,16 +192,16 @@ move_back S T lparen ws e h = open_back S T ws e h
 move_back S T rparen ws e h = go S.point S.levels e
   where
     go : (pt : Point) (vs : List Level) → close_at pt vs S.out ≡ Some T → LaidAt pt vs (rparen ∷ ws)
-    go Start vs e = absurd (none_some T e)
-    go (Opened r) vs e = absurd (none_some T e)
-    go Inside [] e = absurd (none_some T e)
+    go Start vs e = absurd (none-some T e)
+    go (Opened r) vs e = absurd (none-some T e)
+    go Inside [] e = absurd (none-some T e)
     go Inside (v ∷ vs) e = close_back v.need v.kind vs S.out T ws e h
 move_back S T (counts n) ws e h = go S.point S.levels e
   where
     go : (pt : Point) (vs : List Level) → count_at n pt vs S.out ≡ Some T → LaidAt pt vs (counts n ∷ ws)
-    go Start vs e = absurd (none_some T e)
-    go (Opened r) vs e = absurd (none_some T e)
-    go Inside [] e = absurd (none_some T e)
+    go Start vs e = absurd (none-some T e)
+    go (Opened r) vs e = absurd (none-some T e)
+    go Inside [] e = absurd (none-some T e)
     go Inside (v ∷ vs) e = count_back n v.need v vs S.out T ws e h
 move_back S T (names k p l) ws e h = go (is_symbol k) refl e
   where
@@ -232,7 +223,7 @@ back [] S T e d = done_laid S (ap done (some_same S T e) ∙ d)
 back (w ∷ ws) S T e d = go (move S w) refl e (λ U e. back ws U T e d)
   where
     go : (o : Option State) → move S w ≡ o → moves ws o ≡ Some T → ((U : State) → moves ws (Some U) ≡ Some T → LaidIn U ws) → LaidIn S (w ∷ ws)
-    go None m e rest = absurd (none_some T (sym (moves_none ws) ∙ e))
+    go None m e rest = absurd (none-some T (sym (moves_none ws) ∙ e))
     go (Some U) m e rest = move_back S U w ws m (rest U e)
 
 -- words that can be read to the end follow the grammar
@@ -315,7 +306,7 @@ goes ws b = go (moves ws (Some start)) refl
   where
     go : (o : Option State) → moves ws (Some start) ≡ o → (S : State) × (moves ws (Some start) ≡ Some S)
     go None e =
-        absurd (none_some _ (sym (moves_none b.0) ∙ ap (moves b.0) (sym e) ∙ sym (moves_append ws b.0 (Some start)) ∙ ap (λ w. moves w (Some start)) (sym b.1.2) ∙ spelt b.1.0 b.1.1))
+        absurd (none-some _ (sym (moves_none b.0) ∙ ap (moves b.0) (sym e) ∙ sym (moves_append ws b.0 (Some start)) ∙ ap (λ w. moves w (Some start)) (sym b.1.2) ∙ spelt b.1.0 b.1.1))
     go (Some S) e = (S, e)
 
 -- words that follow the grammar are read to the end

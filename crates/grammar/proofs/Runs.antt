@@ -1,5 +1,6 @@
 -- A run over words stops at the first that is wrong, for just what is wrong with it.
 use Rattle.std.proofs.Common.{◌≡◌, ℕ, Bool, true, false, cond, List, [], ◌∷◌, ◌++◌, Some, None, Ok, Err, Option, Result, sym, refl, ap, ◌∙◌, subst, arith}
+use Rattle.std.proofs.lemmas.Option.{none-some}
 use Rattle.std.proofs.lemmas.Bool.{and_parts, and_from, cond-true, cond-false, both_ways}
 use Rattle.words.specs.Words.{Lexeme, name, number, opens, closes}
 use Rattle.grammar.specs.declared.types.GrammarFault.{GrammarFault}
@@ -8,7 +9,7 @@ use Rattle.grammar.specs.Spelling.{Placed, said, said_by, Follows}
 use Rattle.grammar.specs.Limits.{Tally, nothing, note, tally, number_fits, name_fits, fits, all_fit}
 use Rattle.grammar.specs.Machine.{State, move, number_right, room, checked, step, and_then, run, start, done}
 use Rattle.grammar.specs.Reading.{Right, First, GoesOn, Stuck, NumberWrong, OverLimit, Why}
-use Rattle.grammar.proofs.Forward.{moves, moves_append, moves_none, none_some, some_same}
+use Rattle.grammar.proofs.Forward.{moves, moves_append, moves_none, some_same}
 use Rattle.grammar.proofs.Language.{begins, goes, finishes, follows}
 use Rattle.grammar.proofs.Counting.{Agrees, move_agrees, moves_agree, start_agrees, number_same, room_same}
 
@@ -62,7 +63,7 @@ runs (w ∷ ws) t S T a f e =
     go (move S (said_by w)) refl e h.0 (λ U b. runs ws (note t (said_by w)) U T b h.1)
   where
     go : (o : Option State) → move S (said_by w) ≡ o → moves (said ws) o ≡ Some T → fits t w ≡ true → ((U : State) → Agrees (note t (said_by w)) U → moves (said ws) (Some U) ≡ Some T → run ws U ≡ Ok T) → run (w ∷ ws) S ≡ Ok T
-    go None m e f rest = absurd (none_some T (sym (moves_none (said ws)) ∙ e))
+    go None m e f rest = absurd (none-some T (sym (moves_none (said ws)) ∙ e))
     go (Some U) m e f rest = ap (λ r. and_then r (run ws)) (step_ok t S U w a m f) ∙ rest U (move_agrees t S U (said_by w) a m) e
 
 -- words that were all taken can be read and are within the limits
@@ -100,7 +101,7 @@ module _ (before : List Placed) (S : State) (w : Placed) (e : run before start �
   goes_on T m = begins (said (before ++ w ∷ [])) T (on ∙ m)
 
   stuck : move S (said_by w) ≡ None → Stuck before w
-  stuck m b = let g = goes (said (before ++ w ∷ [])) b in none_some g.0 (sym m ∙ sym on ∙ g.1)
+  stuck m b = let g = goes (said (before ++ w ∷ [])) b in none-some g.0 (sym m ∙ sym on ∙ g.1)
 
   moved : GoesOn before w → (T : State) × (move S (said_by w) ≡ Some T)
   moved b = let g = goes (said (before ++ w ∷ [])) b in (g.0, sym on ∙ g.1)

@@ -1,9 +1,8 @@
 -- The limits told of words and those told of the query that they spell are the same.
-use Rattle.std.proofs.Common.{◌≡◌, ℕ, suc, pred, ◌+◌, ◌≤◌, min, max, Bool, true, false, cond, not, ◌&&◌, eqb, ltb, leb, List, [], ◌∷◌, ◌++◌, length, Some, Ok, sym, refl, ap, ◌∙◌, subst, ap₂, inl, inr, zero-add, arith}
+use Rattle.std.proofs.Common.{◌≡◌, ℕ, suc, pred, ◌+◌, ◌≤◌, min, max, Bool, true, false, cond, not, ◌&&◌, eqb, ltb, leb, List, [], ◌∷◌, ◌++◌, length, Some, Ok, sym, refl, ap, ◌∙◌, subst, ap₂, inl, inr, zero-add, arith, rules}
 use Rattle.std.proofs.lemmas.List.{length-append}
-use Rattle.std.proofs.lemmas.Bool.{and_parts, and_from, cond-true, cond-false, ne_eqb, leb-true, le-leb, ltb-true, lt-ltb, cases_eq, false≢true}
+use Rattle.std.proofs.lemmas.Bool.{and_parts, and_from, cond-true, cond-false, ne_eqb, leb-true, le-leb, ltb-true, lt-ltb, cases_eq}
 use Rattle.query.specs.declared.node.Kind.{Kind}
-use Rattle.query.specs.declared.node.Kind.TheVariants.{Symbol, Any, Concat, Exact, Atleast, Atmost, In, Precisely, Noless, Nomore, And, Or, Inorder}
 use Rattle.query.specs.declared.node.Role.{Role}
 use Rattle.query.specs.declared.node.Role.TheVariants.{Shape}
 use Rattle.query.specs.declared.node.Stage.TheVariants.{Read}
@@ -16,7 +15,7 @@ use Rattle.grammar.specs.Spelling.{Said, lparen, rparen, counts, names, Placed, 
 use Rattle.grammar.specs.Limits.{Tally, nothing, note, is_in, level_of, number_fits, name_fits, all_fit}
 use Rattle.grammar.specs.Machine.{State, state, run, start, done}
 use Rattle.grammar.specs.Reading.{plain, Spells}
-use Rattle.grammar.proofs.Forward.{moves, written, written_each, symbol_has, some_same}
+use Rattle.grammar.proofs.Forward.{moves, written, written_each, symbol_none, some_same}
 use Rattle.grammar.proofs.Language.{spelt}
 use Rattle.grammar.proofs.Counting.{start_agrees}
 use Rattle.grammar.proofs.Runs.{runs, took, done_follows}
@@ -85,7 +84,7 @@ mutual
     where
       go : (t : Bool) → is_symbol k ≡ t → parts_right k (count qs) ≡ true → number_free k n ≡ true → named_in (spell_each qs (rparen ∷ ws)) ≡ length (records_each qs) + named_in ws →
           named_in (cond t (names k p l ∷ ws) (lparen ∷ names k p l ∷ number_words k n (spell_each qs (rparen ∷ ws)))) ≡ suc (length (records_each qs)) + named_in ws
-      go true s pr free e = let z = ap (λ x. length (records_each x)) (symbol_has k n qs s pr free).1 in omega arith
+      go true s pr free e = let z = ap (λ x. length (records_each x)) (symbol_none k qs s pr) in omega arith
       go false s pr free e = let z = named_number k n (spell_each qs (rparen ∷ ws)) in omega arith
 
   named_each : (qs : Queries) (r : Role) (ws : List Said) → formed_each r qs ≡ true → named_in (spell_each qs ws) ≡ length (records_each qs) + named_in ws
@@ -110,7 +109,7 @@ mutual
           max (suc d) (high (suc d) (spell_each qs (rparen ∷ ws))) ≡ max (suc d + levels_each qs) (high d ws) →
           high d (cond t (names k p l ∷ ws) (lparen ∷ names k p l ∷ number_words k n (spell_each qs (rparen ∷ ws)))) ≡ max (d + suc (levels_each qs)) (high d ws)
       go true s pr free e =
-          let z = ap (λ x. levels_each x) (symbol_has k n qs s pr free).1 in
+          let z = ap (λ x. levels_each x) (symbol_none k qs s pr) in
           ap (λ i. max (d + i) (high d ws)) (cond-true (is_symbol k) 1 0 s) ∙ omega arith
       go false s pr free e =
           let z = high_number (suc d) k n (spell_each qs (rparen ∷ ws)) in
@@ -140,34 +139,10 @@ not_zero n = elim (cases_eq n 0) [
 
 -- the number behind an operator word
 number_spelt : (k : Kind) (t n p l : ℕ) (ws : List Said) → is_symbol k ≡ false → number_free k n ≡ true → rights t (is_in k) (number_words k n ws) ≡ (number_right (Read t) k n p l && rights t false ws)
-number_spelt Symbol t n p l ws s free = absurd (false≢true (sym s))
-number_spelt Any t n p l ws s free = ap (λ b. b && rights t false ws) (sym free)
-number_spelt Concat t n p l ws s free = ap (λ b. b && rights t false ws) (sym free)
-number_spelt Exact t n p l ws s free = ap (λ b. b && rights t false ws) (and_true (leb n 255))
-number_spelt Atleast t n p l ws s free = ap (λ b. b && rights t false ws) (and_true (leb n 255))
-number_spelt Atmost t n p l ws s free = ap (λ b. b && rights t false ws) (and_true (leb n 255))
-number_spelt In t n p l ws s free = ap (λ b. b && rights t false ws) (not_zero n)
-number_spelt Precisely t n p l ws s free = ap (λ b. b && rights t false ws) (and_true (leb n 255))
-number_spelt Noless t n p l ws s free = ap (λ b. b && rights t false ws) (and_true (leb n 255))
-number_spelt Nomore t n p l ws s free = ap (λ b. b && rights t false ws) (and_true (leb n 255))
-number_spelt And t n p l ws s free = ap (λ b. b && rights t false ws) (sym free)
-number_spelt Or t n p l ws s free = ap (λ b. b && rights t false ws) (sym free)
-number_spelt Inorder t n p l ws s free = ap (λ b. b && rights t false ws) (sym free)
+number_spelt k t n p l ws s free = search (rules, and_true, not_zero)
 
 symbol_number : (k : Kind) (t n p l : ℕ) → is_symbol k ≡ true → number_free k n ≡ true → (is_in k ≡ false) × (leb (p + l) t ≡ number_right (Read t) k n p l)
-symbol_number Symbol t n p l s free = (refl, ap (λ b. b && leb (p + l) t) (sym free))
-symbol_number Any t n p l s free = absurd (false≢true s)
-symbol_number Concat t n p l s free = absurd (false≢true s)
-symbol_number Exact t n p l s free = absurd (false≢true s)
-symbol_number Atleast t n p l s free = absurd (false≢true s)
-symbol_number Atmost t n p l s free = absurd (false≢true s)
-symbol_number In t n p l s free = absurd (false≢true s)
-symbol_number Precisely t n p l s free = absurd (false≢true s)
-symbol_number Noless t n p l s free = absurd (false≢true s)
-symbol_number Nomore t n p l s free = absurd (false≢true s)
-symbol_number And t n p l s free = absurd (false≢true s)
-symbol_number Or t n p l s free = absurd (false≢true s)
-symbol_number Inorder t n p l s free = absurd (false≢true s)
+symbol_number k t n p l s free = search rules
 
 record_spelt : (r : Role) (k : Kind) (t n p l m : ℕ) → allows r k ≡ true → parts_right k m ≡ true → record_right (Read t) r (record { kind = k; number = n; parts = m; place = p; length = l }) ≡ number_right (Read t) k n p l
 record_spelt r k t n p l m a b = ap₂ (λ x y. x && (y && number_right (Read t) k n p l)) a b
@@ -188,7 +163,7 @@ mutual
           ≡ ((record_right (Read t) r (record { kind = k; number = n; parts = count qs; place = p; length = l }) && keeps_each (Read t) (part_role k) qs) && rights t false ws)
       go true s pr free e each =
           let h = symbol_number k t n p l s free in
-          let v = (symbol_has k n qs s pr free).1 in
+          let v = symbol_none k qs s pr in
           ap₂ (λ x y. x && rights t y ws) (cond-true (is_symbol k) (leb (p + l) t) true s ∙ h.1 ∙ sym e) h.0
           ∙ ap (λ x. x && rights t false ws) (sym (and_true _) ∙ ap (λ x. record_right (Read t) r (record { kind = k; number = n; parts = count qs; place = p; length = l }) && keeps_each (Read t) (part_role k) x) (sym v))
       go false s pr free e each =
@@ -206,19 +181,7 @@ mutual
       ∙ sym (and_assoc (keeps (Read t) r q) (keeps_each (Read t) r qs) (rights t false ws))
 
 number_kept : (k : Kind) (t n p l : ℕ) → number_right (Read t) k n p l ≡ true → number_free k n ≡ true
-number_kept Symbol t n p l e = (and_parts (eqb n 255) (leb (p + l) t) e).0
-number_kept Any t n p l e = e
-number_kept Concat t n p l e = e
-number_kept Exact t n p l e = refl
-number_kept Atleast t n p l e = refl
-number_kept Atmost t n p l e = refl
-number_kept In t n p l e = refl
-number_kept Precisely t n p l e = refl
-number_kept Noless t n p l e = refl
-number_kept Nomore t n p l e = refl
-number_kept And t n p l e = e
-number_kept Or t n p l e = e
-number_kept Inorder t n p l e = e
+number_kept k t n p l e = search rules
 
 mutual
   unfolding formed keeps

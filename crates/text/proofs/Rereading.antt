@@ -26,7 +26,7 @@ use Rattle.grammar.specs.Reading.{plain}
 use Rattle.text.specs.Binding.{numbered_by, missing, name_fault, or_else, unknown}
 use Rattle.text.specs.Promise.{placed, ending}
 use Rattle.text.proofs.Bound.{none_or, bind_tree, bind_each, bind_records, bound_well}
-use Rattle.writer.proofs.Pens.{symbol_none}
+use Rattle.grammar.proofs.Forward.{symbol_none}
 use Rattle.text.specs.Written.{ReadsBack}
 use Rattle.writer.specs.Writing.{numeral, number_text, head_text, text_of, parts_text}
 

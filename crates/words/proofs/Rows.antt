@@ -2,7 +2,6 @@
 use Rattle.std.proofs.Common.{◌≡◌, ℕ, suc, ◌+◌, ◌<◌, ◌≤◌, Bool, true, false, cond, eqb, List, [], ◌∷◌, length, get_or, take, drop, sym, refl, ap, ◌∙◌, add-zero, arith, eq-eqb}
 use Rattle.std.proofs.lemmas.Bool.{eqb-true, both_ways}
 use Rattle.std.proofs.lemmas.List.{at_drop_more, at_drop_all, drop-drop, get_or-drop, length-drop}
-use Rattle.std.proofs.lemmas.List.Folds.{length-prefix_len}
 use Rattle.std.specs.List.{prefix_len}
 use Rattle.words.specs.declared.Class.{Class}
 use Rattle.words.specs.declared.Class.TheVariants.{Blank, Letter, Digit, Open, Close, Other}
@@ -25,11 +24,6 @@ same_self k c e = eq-eqb (class_number k) (class_number c) (ap class_number (sym
 pub row_prefix : (k : Class) (bs : List ℕ) → prefix_len (λ b. same k (class b)) bs ≡ row k bs
 row_prefix k [] = refl
 row_prefix k (b ∷ bs) = let more = row_prefix k bs in grind arith
-
-pub row_more : (k : Class) (xs : List ℕ) (i : ℕ) → i < length xs → class (get_or xs i 0) ≡ k → row k (drop i xs) ≡ suc (row k (drop (i + 1) xs))
-row_more k xs i h e =
-    let step : row k (drop i xs) ≡ cond (same k (class (get_or xs i 0))) (suc (row k (drop (i + 1) xs))) 0 = at_drop_more (row k) xs i 0 h in
-    step ∙ ap (λ t. cond t (suc (row k (drop (i + 1) xs))) 0) (same_self k _ e)
 
 is_class : (k c : Class) → same k c ≡ true → c ≡ k
 is_class k c e = sym (back c) ∙ ap decode (sym (eqb-true (class_number k) (class_number c) e)) ∙ back k
@@ -124,13 +118,3 @@ pub past_row_at : (k : Class) (text after : List ℕ) (at place : ℕ) → after
 past_row_at k text after at place same le is h e =
     let within : place < length text = omega (arith, ap length same) in
     past_row k (drop at text) (omega (arith, length-drop at text)) (ap class (get_or-drop at text (row k (drop at text)) 0 ∙ ap (λ i. get_or text i 0) (sym is) ∙ ap (λ l. get_or l place 0) (sym same)) ∙ e)
-
-row_long : (k : Class) (bs : List ℕ) → length (take (row k bs) bs) ≡ row k bs
-row_long k bs = ap (λ n. length (take n bs)) (sym (row_prefix k bs)) ∙ length-prefix_len _ bs ∙ row_prefix k bs
-
--- a row that begins is not empty, and is as long as its bytes
-pub spans : (k : Class) (text bytes : List ℕ) (p end : ℕ) → p < length text → class (get_or text p 0) ≡ k → end ≡ p + row k (drop p text) → bytes ≡ take (row k (drop p text)) (drop p text) →
-    (p < end) × (p + length bytes ≡ end)
-spans k text bytes p end h e is part =
-    let more : row k (drop p text) ≡ suc (row k (drop (p + 1) text)) = row_more k text p h e in
-    (omega arith, omega (arith, ap length part, row_long k (drop p text)))

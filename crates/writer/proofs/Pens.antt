@@ -1,9 +1,9 @@
 -- The parentheses that are open while a query is written, and its text record by record.
-use Rattle.std.proofs.Common.{◌≡◌, ℕ, zero, suc, ◌+◌, ◌-◌, ◌*◌, ◌<◌, ◌≤◌, Bool, true, false, cond, ◌&&◌, List, [], ◌∷◌, ◌++◌, length, get_or, drop, set, sym, refl, ap, ◌∙◌, append_assoc, append-nil, sub-one, arith}
-use Rattle.std.proofs.lemmas.List.{drop_more, drop_all, drop-set, length-append}
-use Rattle.std.proofs.lemmas.Bool.{and_parts, cond-false, eqb-true, false≢true}
+use Rattle.std.proofs.Common.{◌≡◌, ℕ, zero, suc, ◌+◌, ◌*◌, ◌<◌, ◌≤◌, Bool, true, false, cond, ◌&&◌, List, [], ◌∷◌, ◌++◌, length, get_or, drop, Some, slice_get, sym, refl, ap, ◌∙◌, append_assoc, append-nil, arith}
+use Rattle.std.proofs.lemmas.Option.{none-some}
+use Rattle.std.proofs.lemmas.List.{drop_more, length-append}
+use Rattle.std.proofs.lemmas.Bool.{and_parts}
 use Rattle.query.specs.declared.node.Kind.{Kind}
-use Rattle.query.specs.declared.node.Kind.TheVariants.{Symbol, Any, Concat, Exact, Atleast, Atmost, In, Precisely, Noless, Nomore, And, Or, Inorder}
 use Rattle.query.specs.declared.node.Node.{Node}
 use Rattle.query.specs.declared.node.Role.{Role}
 use Rattle.query.specs.declared.node.Role.TheVariants.{Shape}
@@ -16,94 +16,21 @@ use Rattle.alphabet.specs.Every.{every}
 use Rattle.alphabet.specs.Names.{may_name}
 use Rattle.grammar.specs.Names.{operator_word}
 use Rattle.grammar.specs.Spelling.{is_symbol, takes_number}
-use Rattle.writer.specs.Writing.{numeral, head_text, record_text, text_of, parts_text, Wrote}
-use Rattle.writer.specs.Laying.{gap, begun, shut_text, shut_stack, pushed, laid}
+use Rattle.grammar.proofs.Forward.{symbol_none, some_same}
+use Rattle.writer.specs.declared.Pen.{Pen}
+use Rattle.writer.specs.Writing.{numeral, head_text, record_text, text_of, parts_text}
+use Rattle.writer.specs.Laying.{open_now, Puts, gap, begun, shut_text, shut_stack, pushed, one_text, open_after, laid}
 use Rattle.writer.proofs.Putting.{wrote_then, wrote_as, wrote_nothing, word_short, numeral_short, name_short}
 
-pub not_symbol : (k : Kind) → (k ≡ Symbol → ⊥) → is_symbol k ≡ false
-not_symbol Symbol n = absurd (n refl)
-not_symbol Any n = refl
-not_symbol Concat n = refl
-not_symbol Exact n = refl
-not_symbol Atleast n = refl
-not_symbol Atmost n = refl
-not_symbol In n = refl
-not_symbol Precisely n = refl
-not_symbol Noless n = refl
-not_symbol Nomore n = refl
-not_symbol And n = refl
-not_symbol Or n = refl
-not_symbol Inorder n = refl
+-- bytes behind bytes
+pub puts_then : {p q r : Pen} {l m bs cs : List ℕ} → Puts p q l bs → Puts q r m cs → p.at + length bs + length cs ≤ length p.out.now → Puts p r m (bs ++ cs)
+puts_then a b h = record { same = b.same ∙ a.same; stack = b.stack; wrote = wrote_then a.wrote b.wrote h; size = b.size ∙ a.size }
 
-pub symbol_text : (names : List (List ℕ)) (k : Kind) (n : ℕ) → k ≡ Symbol → get_or names n [] ≡ record_text names k n
-symbol_text names k n e = ap (λ j. record_text names j n) (sym e)
+pub puts_as : {p q : Pen} {l m bs cs : List ℕ} → l ≡ m → bs ≡ cs → Puts p q l bs → Puts p q m cs
+puts_as e f a = record { same = a.same; stack = a.stack ∙ e; wrote = wrote_as f a.wrote; size = a.size }
 
-pub head_only : (names : List (List ℕ)) (k : Kind) (n : ℕ) → is_symbol k ≡ false → head_text k n ≡ record_text names k n
-head_only names k n e = sym (cond-false (is_symbol k) (get_or names n []) (head_text k n) e)
-
--- a stack in its array
-module _ (left : List ℕ) (free : ℕ) where
-  pub open_none : length left ≤ free → drop free left ≡ []
-  open_none h = drop_all free left h
-
-  pub begun_none : length left ≤ free → drop free left ≡ begun (drop free left)
-  begun_none h = open_none h ∙ ap begun (sym (open_none h))
-
-  pub gap_none : length left ≤ free → [] ≡ gap (drop free left)
-  gap_none h = ap gap (sym (open_none h))
-
-  pub begun_some : (v : ℕ) → free < length left → v ≡ get_or left free 0 - 1 → drop free (set left free v) ≡ begun (drop free left)
-  begun_some v h e = drop-set left free v h ∙ ap (λ m. m ∷ drop (free + 1) left) (e ∙ sub-one (get_or left free 0)) ∙ ap begun (sym (drop_more left free 0 h))
-
-  pub gap_some : free < length left → 32 ∷ [] ≡ gap (drop free left)
-  gap_some h = ap gap (sym (drop_more left free 0 h))
-
-  pub entered : (x : Node) → 0 < free → free ≤ length left → is_symbol x.kind ≡ false → drop (free - 1) (set left (free - 1) x.parts) ≡ pushed x (drop free left)
-  entered x pos le s =
-      let back : free - 1 + 1 ≡ free = omega arith in
-      drop-set left (free - 1) x.parts (omega arith) ∙ ap (λ i. x.parts ∷ drop i left) back ∙ sym (cond-false (is_symbol x.kind) (drop free left) (x.parts ∷ drop free left) s)
-
-  -- a parenthesis without a part ahead
-  pub shuts_here : free < length left → get_or left free 0 ≡ 0 → drop free left ≡ 0 ∷ drop (free + 1) left
-  shuts_here h z = drop_more left free 0 h ∙ ap (λ m. m ∷ drop (free + 1) left) z
-
-  shut_stays : (o : List ℕ) (m : ℕ) (ms : List ℕ) → o ≡ m ∷ ms → (m ≡ 0 → ⊥) → ([] ≡ shut_text o) × (o ≡ shut_stack o)
-  shut_stays o zero ms e n = absurd (n refl)
-  shut_stays o (suc m) ms e n = (ap shut_text (sym e), e ∙ ap shut_stack (sym e))
-
-  pub shut_some : free < length left → (get_or left free 0 ≡ 0 → ⊥) → ([] ≡ shut_text (drop free left)) × (drop free left ≡ shut_stack (drop free left))
-  shut_some h n = shut_stays (drop free left) (get_or left free 0) (drop (free + 1) left) (drop_more left free 0 h) n
-
-  pub shut_none : length left ≤ free → ([] ≡ shut_text (drop free left)) × (drop free left ≡ shut_stack (drop free left))
-  shut_none h = (ap shut_text (sym (open_none h)), open_none h ∙ ap shut_stack (sym (open_none h)))
-
--- how far the closing has come
-pub record Shutting (o₀ out₀ : List ℕ) (at₀ free₀ : ℕ) (o out : List ℕ) (at free : ℕ) : Type 0 where
-  pub bytes : List ℕ
-  pub texts : bytes ++ shut_text o ≡ shut_text o₀
-  pub stacks : shut_stack o ≡ shut_stack o₀
-  pub wrote : Wrote out₀ at₀ bytes out at
-  pub sums : at + free₀ ≡ at₀ + free
-
-pub shutting_none : (o out : List ℕ) (at free : ℕ) → Shutting o out at free o out at free
-shutting_none o out at free = record { bytes = []; texts = refl; stacks = refl; wrote = wrote_nothing out at; sums = refl }
-
-pub shutting_more : {o₀ out₀ : List ℕ} {at₀ free₀ : ℕ} {o out : List ℕ} {at free : ℕ} (o' out' : List ℕ) (at' : ℕ) → Shutting o₀ out₀ at₀ free₀ o out at free → o ≡ 0 ∷ o' →
-    Wrote out at (41 ∷ []) out' at' → at + 1 ≤ length out₀ → Shutting o₀ out₀ at₀ free₀ o' out' at' (free + 1)
-shutting_more {o₀} {out₀} {at₀} {free₀} {o} {out} {at} {free} o' out' at' h e w room =
-    let a = h.wrote.ends in
-    let b = w.ends in
-    let s = h.sums in
-    record {
-      bytes = h.bytes ++ 41 ∷ [];
-      texts = append_assoc h.bytes (41 ∷ []) (shut_text o') ∙ ap (λ l. h.bytes ++ shut_text l) (sym e) ∙ h.texts;
-      stacks = ap shut_stack (sym e) ∙ h.stacks;
-      wrote = wrote_then h.wrote w (omega arith);
-      sums = omega arith;
-    }
-
-pub shutting_all : {o₀ out₀ : List ℕ} {at₀ free₀ : ℕ} {o out : List ℕ} {at free : ℕ} → Shutting o₀ out₀ at₀ free₀ o out at free → [] ≡ shut_text o → Wrote out₀ at₀ (shut_text o₀) out at
-shutting_all h e = wrote_as (sym (append-nil h.bytes) ∙ ap (λ l. h.bytes ++ l) e ∙ h.texts) h.wrote
+pub puts_nothing : (p : Pen) → Puts p p (open_now p) []
+puts_nothing p = record { same = refl; stack = refl; wrote = wrote_nothing p.out.now p.at; size = refl }
 
 pub gap_short : (o : List ℕ) → length (gap o) ≤ 1
 gap_short [] = omega arith
@@ -124,69 +51,123 @@ record_short names k n e = go (is_symbol k)
     go true = name_short names n e
     go false = head_short k n
 
--- how far the writing of records has come
-pub record Laying (names : List (List ℕ)) (xs : List Node) (out₀ : List ℕ) (i : ℕ) (o out : List ℕ) (at free : ℕ) : Type 0 where
+-- how far the closing has come
+pub record Shutting (first now' : Pen) : Type 0 where
   pub bytes : List ℕ
-  pub texts : bytes ++ laid names o (drop i xs) ≡ laid names [] xs
-  pub wrote : Wrote out₀ 0 bytes out at
-  pub small : at + (64 - free) ≤ 18 * i
-  pub few : 64 - free ≤ i
+  pub texts : bytes ++ shut_text (open_now now') ≡ shut_text (open_now first)
+  pub stacks : shut_stack (open_now now') ≡ shut_stack (open_now first)
+  pub puts : Puts first now' (open_now now') bytes
+  pub sums : length bytes + length (open_now now') ≡ length (open_now first)
 
-pub laying_none : (names : List (List ℕ)) (xs : List Node) (out o : List ℕ) (free : ℕ) → o ≡ [] → 64 ≤ free → Laying names xs out 0 o out 0 free
-laying_none names xs out o free e h = record { bytes = []; texts = ap (λ l. laid names l xs) e; wrote = wrote_nothing out 0; small = omega arith; few = omega arith }
+shuts_here : (ms : List ℕ) → slice_get ms 0 ≡ Some 0 → ms ≡ 0 ∷ drop 1 ms
+shuts_here [] e = absurd (none-some 0 e)
+shuts_here (m ∷ ms) e = ap (λ n. n ∷ ms) (some_same m 0 e)
 
-pub laying_all : (names : List (List ℕ)) (xs : List Node) (out₀ : List ℕ) (i : ℕ) (o out : List ℕ) (at free : ℕ) → length xs ≤ i → Laying names xs out₀ i o out at free → Wrote out₀ 0 (laid names [] xs) out at
-laying_all names xs out₀ i o out at free h l = wrote_as (sym (append-nil l.bytes) ∙ ap (λ ys. l.bytes ++ laid names o ys) (sym (drop_all i xs h)) ∙ l.texts) l.wrote
+-- one parenthesis more
+pub shutting_more : {first p q : Pen} → Shutting first p → slice_get (open_now p) 0 ≡ Some 0 → Puts p q (open_now q) (41 ∷ []) → open_now q ≡ drop 1 (open_now p) →
+    first.at + length (open_now first) ≤ length first.out.now → Shutting first q
+shutting_more {first} {p} {q} h e a behind room =
+    let here : open_now p ≡ 0 ∷ open_now q = shuts_here (open_now p) e ∙ ap (λ ms. 0 ∷ ms) (sym behind) in
+    let n = ap length here in
+    let s = h.sums in
+    let l = length-append h.bytes (41 ∷ []) in
+    record {
+      bytes = h.bytes ++ 41 ∷ [];
+      texts = append_assoc h.bytes (41 ∷ []) (shut_text (open_now q)) ∙ ap (λ ms. h.bytes ++ shut_text ms) (sym here) ∙ h.texts;
+      stacks = ap shut_stack (sym here) ∙ h.stacks;
+      puts = puts_then h.puts a (omega arith);
+      sums = omega arith;
+    }
+
+shut_stays : (ms : List ℕ) → (slice_get ms 0 ≡ Some 0 → ⊥) → ([] ≡ shut_text ms) × (ms ≡ shut_stack ms)
+shut_stays [] n = (refl, refl)
+shut_stays (zero ∷ ms) n = absurd (n refl)
+shut_stays (suc m ∷ ms) n = (refl, refl)
+
+pub shutting_all : {first p : Pen} → Shutting first p → (slice_get (open_now p) 0 ≡ Some 0 → ⊥) → Puts first p (shut_stack (open_now first)) (shut_text (open_now first))
+shutting_all {first} {p} h n =
+    let stays = shut_stays (open_now p) n in
+    puts_as (stays.1 ∙ h.stacks) (sym (append-nil h.bytes) ∙ ap (λ ys. h.bytes ++ ys) stays.0 ∙ h.texts) h.puts
+
+pub begun_long : (ms : List ℕ) → length (begun ms) ≡ length ms
+begun_long [] = refl
+begun_long (m ∷ ms) = refl
+
+pub pushed_short : (x : Node) (ms : List ℕ) → length (pushed x ms) ≤ length ms + 1
+pushed_short x ms = go (is_symbol x.kind)
+  where
+    go : (t : Bool) → length (cond t ms (x.parts ∷ ms)) ≤ length ms + 1
+    go true = omega arith
+    go false = omega arith
+
+-- each parenthesis that closes is open no longer
+pub shut_sum : (ms : List ℕ) → length (shut_text ms) + length (shut_stack ms) ≡ length ms
+shut_sum [] = refl
+shut_sum (zero ∷ ms) = let h = shut_sum ms in omega arith
+shut_sum (suc m ∷ ms) = omega arith
+
+-- one record, in four steps
+pub one_record : {p q r s t : Pen} (names : List (List ℕ)) (x : Node) → Puts p q (begun (open_now p)) (gap (open_now p)) → Puts q r (open_now q) (record_text names x.kind x.number) →
+    Puts r s (pushed x (open_now r)) [] → Puts s t (shut_stack (open_now s)) (shut_text (open_now s)) → every may_name names ≡ true → p.at + length (open_now p) + 18 ≤ length p.out.now →
+    Puts p t (open_after x (open_now p)) (one_text names x (open_now p))
+one_record {p} {q} {r} {s} {t} names x a b c d e room =
+    let ms = open_now p in
+    let stack : open_now s ≡ pushed x (begun ms) = c.stack ∙ ap (pushed x) (b.stack ∙ a.stack) in
+    let shut = puts_as (ap shut_stack stack) (ap shut_text stack) d in
+    let g = gap_short ms in
+    let n = record_short names x.kind x.number e in
+    let l = shut_sum (pushed x (begun ms)) in
+    let m = pushed_short x (begun ms) in
+    let o = begun_long ms in
+    let u = length-append (record_text names x.kind x.number) (shut_text (pushed x (begun ms))) in
+    let v₁ = a.wrote.ends in
+    let v₂ = b.wrote.ends in
+    let v₃ = c.wrote.ends in
+    let z₁ = a.size in
+    let z₂ = b.size in
+    puts_then a (puts_then b (puts_then c shut (omega arith)) (omega arith)) (omega arith)
+
+-- how far the writing of records has come
+pub record Laying (names : List (List ℕ)) (xs : List Node) (first : Pen) (i : ℕ) (now' : Pen) : Type 0 where
+  pub bytes : List ℕ
+  pub texts : bytes ++ laid names (open_now now') (drop i xs) ≡ laid names [] xs
+  pub puts : Puts first now' (open_now now') bytes
+  pub small : now'.at + length (open_now now') ≤ 18 * i
+  pub few : length (open_now now') ≤ i
 
 -- one record more
-pub laying_more : (names : List (List ℕ)) (xs : List Node) (out₀ : List ℕ) (i : ℕ) (x : Node) {o out : List ℕ} {at free : ℕ} (o' o'' p q r : List ℕ) (a b c free' free'' : ℕ) →
-    Laying names xs out₀ i o out at free → drop i xs ≡ x ∷ drop (i + 1) xs → length (record_text names x.kind x.number) ≤ 16 → i < 64 → 4096 ≤ length out₀ →
-    Wrote out at (gap o) p a → Wrote p a (record_text names x.kind x.number) q b → o' ≡ pushed x (begun o) → free ≤ free' + 1 →
-    Wrote q b (shut_text o') r c → o'' ≡ shut_stack o' → c + free' ≡ b + free'' → length p ≡ length out₀ → free' ≤ 64 → free'' ≤ 64 → Laying names xs out₀ (i + 1) o'' r c free''
-laying_more names xs out₀ i x {o} {out} {at} {free} o' o'' p q r a b c free' free'' l d short lt room w₁ w₂ e₁ f₁ w₃ e₂ f₂ lp h' h'' =
+pub laying_more : {names : List (List ℕ)} {xs : List Node} {first p q : Pen} {i : ℕ} (d : Node) → Laying names xs first i p → Puts p q (open_after (get_or xs i d) (open_now p)) (one_text names (get_or xs i d) (open_now p)) →
+    i < length xs → i < 64 → every may_name names ≡ true → first.at ≡ 0 → 4096 ≤ length first.out.now → Laying names xs first (i + 1) q
+laying_more {names} {xs} {first} {p} {q} {i} d h a in_range lt e start room =
+    let x = get_or xs i d in
+    let ms = open_now p in
     let rt = record_text names x.kind x.number in
-    let st = shut_text (pushed x (begun o)) in
-    let rest = laid names (shut_stack (pushed x (begun o))) (drop (i + 1) xs) in
-    let s = l.small in
-    let s' = l.few in
-    let u₀ = l.wrote.ends in
-    let u₁ = w₁.ends in
-    let u₂ = w₂.ends in
-    let u₃ = w₃.ends in
-    let g = gap_short o in
-    let w₃' = wrote_as (ap shut_text e₁) w₃ in
-    let v₃ = w₃'.ends in
+    let st = shut_text (pushed x (begun ms)) in
+    let rest = laid names (open_after x ms) (drop (i + 1) xs) in
+    let g = gap_short ms in
+    let n = record_short names x.kind x.number e in
+    let l = shut_sum (pushed x (begun ms)) in
+    let m = pushed_short x (begun ms) in
+    let o = begun_long ms in
+    let u₁ = length-append (gap ms) (rt ++ st) in
+    let u₂ = length-append rt st in
+    let v₁ = h.puts.wrote.ends in
+    let v₂ = a.wrote.ends in
+    let k = ap length a.stack in
+    let s = h.small in
+    let f = h.few in
     record {
-      bytes = ((l.bytes ++ gap o) ++ rt) ++ st;
+      bytes = h.bytes ++ one_text names x ms;
       texts =
-          ap (λ ys. ((((l.bytes ++ gap o) ++ rt) ++ st) ++ laid names ys (drop (i + 1) xs))) (e₂ ∙ ap shut_stack e₁)
-          ∙ append_assoc ((l.bytes ++ gap o) ++ rt) st rest
-          ∙ append_assoc (l.bytes ++ gap o) rt (st ++ rest)
-          ∙ append_assoc l.bytes (gap o) (rt ++ (st ++ rest))
-          ∙ ap (λ ys. l.bytes ++ laid names o ys) (sym d)
-          ∙ l.texts;
-      wrote =
-          wrote_then (wrote_then (wrote_then l.wrote w₁ (omega arith)) w₂ (let z = length-append l.bytes (gap o) in omega arith)) w₃'
-          (let z = length-append l.bytes (gap o) in let y = length-append (l.bytes ++ gap o) rt in omega arith);
+          ap (λ ys. (h.bytes ++ one_text names x ms) ++ laid names ys (drop (i + 1) xs)) a.stack
+          ∙ append_assoc h.bytes (gap ms ++ (rt ++ st)) rest
+          ∙ ap (λ ys. h.bytes ++ ys) (append_assoc (gap ms) (rt ++ st) rest ∙ ap (λ ys. gap ms ++ ys) (append_assoc rt st rest))
+          ∙ ap (λ ys. h.bytes ++ laid names ms ys) (sym (drop_more xs i d in_range))
+          ∙ h.texts;
+      puts = puts_as (sym a.stack) refl (puts_then h.puts a (omega arith));
       small = omega arith;
       few = omega arith;
     }
-
-pub symbol_none : (k : Kind) (qs : Queries) → is_symbol k ≡ true → parts_right k (count qs) ≡ true → qs ≡ none
-symbol_none Symbol none s e = refl
-symbol_none Symbol (more q qs) s e = absurd (let z = eqb-true (suc (count qs)) 0 e in omega arith)
-symbol_none Any qs s e = absurd (false≢true s)
-symbol_none Concat qs s e = absurd (false≢true s)
-symbol_none Exact qs s e = absurd (false≢true s)
-symbol_none Atleast qs s e = absurd (false≢true s)
-symbol_none Atmost qs s e = absurd (false≢true s)
-symbol_none In qs s e = absurd (false≢true s)
-symbol_none Precisely qs s e = absurd (false≢true s)
-symbol_none Noless qs s e = absurd (false≢true s)
-symbol_none Nomore qs s e = absurd (false≢true s)
-symbol_none And qs s e = absurd (false≢true s)
-symbol_none Or qs s e = absurd (false≢true s)
-symbol_none Inorder qs s e = absurd (false≢true s)
 
 module _ (names : List (List ℕ)) where
   -- what comes behind a part

@@ -1,14 +1,12 @@
 -- Bytes put into a buffer, one after another.
-use Rattle.std.proofs.Common.{◌≡◌, ℕ, zero, suc, ◌+◌, ◌/◌, ◌%◌, ◌≤◌, Bool, true, false, cond, ◌&&◌, ltb, leb, List, [], ◌∷◌, ◌++◌, length, get_or, take, drop, Some, None, sym, refl, ap, ◌∙◌, subst, ap₂, append_assoc, add-zero, arith}
+use Rattle.std.proofs.Common.{◌≡◌, ℕ, zero, suc, ◌+◌, ◌/◌, ◌%◌, ◌≤◌, Bool, true, false, cond, ◌&&◌, ltb, leb, List, [], ◌∷◌, ◌++◌, length, get_or, take, drop, sym, ap, ◌∙◌, subst, ap₂, append_assoc, add-zero, arith, rules}
 use Rattle.std.proofs.lemmas.List.{length-append, length-take-le, take-append-drop, take_at, drop-drop, drop_at}
-use Rattle.std.proofs.lemmas.Bool.{and_parts, cond-true, cond-false, ltb-false, leb-true}
+use Rattle.std.proofs.lemmas.Bool.{and_parts, cond-true, cond-false, leb-true}
 use Rattle.alphabet.specs.Every.{every}
-use Rattle.alphabet.specs.Names.{may_name, name_at}
+use Rattle.alphabet.specs.Names.{may_name}
 use Rattle.query.specs.declared.node.Kind.{Kind}
-use Rattle.query.specs.declared.node.Kind.TheVariants.{Symbol, Any, Concat, Exact, Atleast, Atmost, In, Precisely, Noless, Nomore, And, Or, Inorder}
 use Rattle.grammar.specs.Names.{operator_word}
 use Rattle.grammar.specs.Spelling.{takes_number}
-use Rattle.grammar.proofs.Forward.{none_some, some_same}
 use Rattle.writer.specs.Writing.{numeral, number_text, put_at, Wrote}
 
 -- nothing put changes nothing
@@ -58,19 +56,7 @@ numeral_short n = go (ltb n 10) (ltb n 100)
     go false false = omega arith
 
 pub word_short : (k : Kind) → length (operator_word k) ≤ 9
-word_short Symbol = omega arith
-word_short Any = omega arith
-word_short Concat = omega arith
-word_short Exact = omega arith
-word_short Atleast = omega arith
-word_short Atmost = omega arith
-word_short In = omega arith
-word_short Precisely = omega arith
-word_short Noless = omega arith
-word_short Nomore = omega arith
-word_short And = omega arith
-word_short Or = omega arith
-word_short Inorder = omega arith
+word_short k = search rules
 
 pub number_none : (k : Kind) (n : ℕ) → takes_number k ≡ false → [] ≡ number_text k n
 number_none k n e = sym (cond-false (takes_number k) (32 ∷ numeral n) [] e)
@@ -86,22 +72,3 @@ name_short (x ∷ xs) zero e =
     let b = and_parts (leb 1 (length x) && leb (length x) 16) _ a.0 in
     leb-true (length x) 16 (and_parts (leb 1 (length x)) (leb (length x) 16) b.0).1
 name_short (x ∷ xs) (suc j) e = name_short xs j (and_parts (may_name x) (every may_name xs) e).1
-
-pub name_is : (names : List (List ℕ)) (j : ℕ) (bs : List ℕ) → Some bs ≡ name_at names j → bs ≡ get_or names j []
-name_is names j bs e = go (ltb j (length names)) e
-  where
-    go : (t : Bool) → Some bs ≡ cond t (Some (get_or names j [])) None → bs ≡ get_or names j []
-    go true e = some_same bs (get_or names j []) e
-    go false e = absurd (none_some bs (sym e))
-
-past : (names : List (List ℕ)) (j : ℕ) → length names ≤ j → [] ≡ get_or names j []
-past [] j h = refl
-past (x ∷ xs) zero h = absurd (omega arith)
-past (x ∷ xs) (suc j) h = past xs j (omega arith)
-
-pub name_none : (names : List (List ℕ)) (j : ℕ) → None ≡ name_at names j → [] ≡ get_or names j []
-name_none names j e = go (ltb j (length names)) refl e
-  where
-    go : (t : Bool) → ltb j (length names) ≡ t → None ≡ cond t (Some (get_or names j [])) None → [] ≡ get_or names j []
-    go true q e = absurd (none_some (get_or names j []) e)
-    go false q e = past names j (ltb-false j (length names) q)

@@ -2,129 +2,114 @@
 
 #![tactic(auto)]
 
-ghost use Rattle.std.specs.Prelude.{◌≡◌, ◌+◌, ◌-◌, ◌<◌, ◌≤◌, [], ◌∷◌, ◌++◌, length};
+ghost use Rattle.std.specs.Prelude.{◌≡◌, ◌+◌, ◌<◌, ◌≤◌, [], ◌∷◌, length};
 ghost use Rattle.alphabet.specs.Symbols.{names_of};
 ghost use Rattle.writer.specs.Writing.{numeral, head_text, record_text, Wrote};
-ghost use Rattle.writer.specs.Laying.{open_now, gap, begun, pushed, laid, shut_text, shut_stack};
-
-mod pen;
+ghost use Rattle.writer.specs.Laying.{open_now, Puts, gap, begun, pushed, shut_text, shut_stack, open_after, one_text, laid};
 
 use alphabet::Alphabet;
+use fixed::Stack;
 use grammar::{takes_number, word_of};
-use pen::Pen;
 use query::{Kind, Node};
 
-// Puts bytes into the buffer, and tells the place behind them.
-fn put(out: &mut [u8], at: usize, bytes: &[u8]) -> usize
-    requires { at + length bytes.now ≤ length out.old }
-    ensures { Wrote out.old at bytes.now out.new result }
-{
-    let end = at + bytes.len();
-    out[at..end].copy_from_slice(bytes);
-    end
+// A lent buffer, the place behind what was put into it, and how many parts each open parenthesis still has ahead.
+#[derive(Drop)]
+struct Pen<'a> {
+    out: &'a mut [u8],
+    at: usize,
+    left: Stack<u8, 64>,
 }
 
-fn put_number(out: &mut [u8], at: usize, n: u8) -> usize
-    requires { at + 4 ≤ length out.old }
-    ensures { Wrote out.old at (32 ∷ numeral n) out.new result }
-{
-    if n < 10 {
-        put(out, at, &[b' ', b'0' + n])
-    } else if n < 100 {
-        put(out, at, &[b' ', b'0' + n / 10, b'0' + n % 10])
-    } else {
-        put(
-            out,
-            at,
-            &[b' ', b'0' + n / 100, b'0' + n / 10 % 10, b'0' + n % 10],
-        )
-    }
-}
-
-fn put_close(out: &mut [u8], at: usize) -> usize
-    requires { at < length out.old }
-    ensures { Wrote out.old at (41 ∷ []) out.new result }
-{
-    put(out, at, b")")
-}
-
-fn put_head(out: &mut [u8], at: usize, kind: Kind, number: u8) -> usize
-    requires { at + 16 ≤ length out.old }
-    ensures { Wrote out.old at (head_text kind number) out.new result }
-{
-    let word = put(out, at, b"(");
-    let behind = put(out, word, word_of(kind));
-    if takes_number(kind) {
-        put_number(out, behind, number)
-    } else {
-        behind
-    }
-}
-
-fn put_record(out: &mut [u8], at: usize, node: Node, alphabet: &Alphabet) -> usize
-    requires { at + 16 ≤ length out.old }
-    ensures { Wrote out.old at (record_text (names_of alphabet.now) node.kind node.number) out.new result }
-{
-    let Kind::Symbol = node.kind else {
-        return put_head(out, at, node.kind, node.number);
-    };
-    match alphabet.name(node.number) {
-        Some(name) => put(out, at, name),
-        None => at,
-    }
-}
-
-impl Pen {
-    fn new() -> Pen
-        ensures stack { open_now result ≡ [] }
-        ensures free { result.free ≡ 64 }
+impl<'a> Pen<'a> {
+    fn put(&mut self, bytes: &[u8])
+        requires { self.old.at + length bytes.now ≤ length self.old.out.now }
+        ensures { Puts self.old self.new (open_now self.old) bytes.now }
     {
-        Pen {
-            left: [0; 64],
-            free: 64,
+        let end = self.at + bytes.len();
+        let out = &mut *self.out;
+        out[self.at..end].copy_from_slice(bytes);
+        self.at = end;
+    }
+
+    // A space and a number.
+    fn put_number(&mut self, n: u8)
+        requires { self.old.at + 4 ≤ length self.old.out.now }
+        ensures { Puts self.old self.new (open_now self.old) (32 ∷ numeral n) }
+    {
+        if n < 10 {
+            self.put(&[b' ', b'0' + n]);
+        } else if n < 100 {
+            self.put(&[b' ', b'0' + n / 10, b'0' + n % 10]);
+        } else {
+            self.put(&[b' ', b'0' + n / 100, b'0' + n / 10 % 10, b'0' + n % 10]);
+        }
+    }
+
+    fn put_head(&mut self, kind: Kind, number: u8)
+        requires { self.old.at + 16 ≤ length self.old.out.now }
+        ensures { Puts self.old self.new (open_now self.old) (head_text kind number) }
+    {
+        self.put(b"(");
+        self.put(word_of(kind));
+        if takes_number(kind) {
+            self.put_number(number);
+        }
+    }
+
+    // What stands for a record in front of its parts.
+    fn put_record(&mut self, node: Node, alphabet: &Alphabet)
+        requires { self.old.at + 16 ≤ length self.old.out.now }
+        ensures { Puts self.old self.new (open_now self.old) (record_text (names_of alphabet.now) node.kind node.number) }
+    {
+        if node.kind != Kind::Symbol {
+            self.put_head(node.kind, node.number);
+        } else if let Some(name) = alphabet.name(node.number) {
+            self.put(name);
         }
     }
 
     // A space in front of a part, which its parenthesis then has no longer ahead.
-    fn begin(&mut self, out: &mut [u8], at: usize) -> usize
-        requires { at < length out.old }
-        ensures stack { open_now self.new ≡ begun (open_now self.old) }
-        ensures same { self.new.free ≡ self.old.free }
-        ensures wrote { Wrote out.old at (gap (open_now self.old)) out.new result }
+    fn begin(&mut self)
+        requires { self.old.at < length self.old.out.now }
+        ensures { Puts self.old self.new (begun (open_now self.old)) (gap (open_now self.old)) }
     {
-        if self.free == 64 {
-            return at;
+        if let Some(ahead) = self.left.top() {
+            self.left.turn(ahead.saturating_sub(1));
+            self.put(b" ");
         }
-        self.left[self.free] = self.left[self.free].saturating_sub(1);
-        put(out, at, b" ")
     }
 
     // An operator opens a parenthesis, with all its parts ahead.
     fn enter(&mut self, node: Node)
-        requires { 0 < self.old.free }
-        ensures stack { open_now self.new ≡ pushed node (open_now self.old) }
-        ensures room { self.old.free ≤ self.new.free + 1 }
+        requires { length (open_now self.old) < 64 }
+        ensures { Puts self.old self.new (pushed node (open_now self.old)) [] }
     {
-        let Kind::Symbol = node.kind else {
-            self.free -= 1;
-            self.left[self.free] = node.parts;
-            return;
-        };
+        if node.kind != Kind::Symbol {
+            self.left.push(node.parts);
+        }
     }
 
     // Closes each parenthesis that has no part ahead, from the innermost on.
-    fn shut(&mut self, out: &mut [u8], at: usize) -> usize
-        requires { at + (64 - self.old.free) ≤ length out.old }
-        ensures stack { open_now self.new ≡ shut_stack (open_now self.old) }
-        ensures sums { result + self.old.free ≡ at + self.new.free }
-        ensures wrote { Wrote out.old at (shut_text (open_now self.old)) out.new result }
+    fn shut(&mut self)
+        requires { self.old.at + length (open_now self.old) ≤ length self.old.out.now }
+        ensures { Puts self.old self.new (shut_stack (open_now self.old)) (shut_text (open_now self.old)) }
     {
-        let mut end = at;
-        while self.free < 64 && self.left[self.free] == 0 {
-            self.free += 1;
-            end = put_close(out, end);
+        while self.left.top() == Some(0) {
+            self.left.pop();
+            self.put(b")");
         }
-        end
+    }
+
+    // Writes a record, and closes what has no part ahead then.
+    fn write(&mut self, node: Node, alphabet: &Alphabet)
+        requires few { length (open_now self.old) < 64 }
+        requires room { self.old.at + length (open_now self.old) + 18 ≤ length self.old.out.now }
+        ensures { Puts self.old self.new (open_after node (open_now self.old)) (one_text (names_of alphabet.now) node (open_now self.old)) }
+    {
+        self.begin();
+        self.put_record(node, alphabet);
+        self.enter(node);
+        self.shut();
     }
 }
 
@@ -135,13 +120,13 @@ pub fn put_all(out: &mut [u8], records: &[Node], alphabet: &Alphabet) -> usize
     ensures wrote { Wrote out.old 0 (laid (names_of alphabet.now) [] records.now) out.new result }
     ensures short { result ≤ 1152 }
 {
-    let mut pen = Pen::new();
-    let mut end = 0;
+    let mut pen = Pen {
+        out,
+        at: 0,
+        left: Stack::new(0),
+    };
     for node in records {
-        end = pen.begin(out, end);
-        end = put_record(out, end, *node, alphabet);
-        pen.enter(*node);
-        end = pen.shut(out, end);
+        pen.write(*node, alphabet);
     }
-    end
+    pen.at
 }
