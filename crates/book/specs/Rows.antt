@@ -1,12 +1,12 @@
 -- The runs of a row, where it is known of the newest what it is.
-use Rattle.std.specs.Prelude.{◌≡◌, ℕ, ◌+◌, ◌-◌, ◌<◌, ◌≤◌, ◌≢◌, Bool, true, List, [], ◌∷◌, Option, Some, None, length, drop, slice_get, nat_le, refl}
+use Rattle.std.specs.Prelude.{◌≡◌, ℕ, ◌+◌, ◌-◌, ◌<◌, ◌≤◌, ◌≢◌, true, List, [], ◌∷◌, Option, Some, None, length, drop, slice_get, nat_le, refl}
 use Rattle.std.specs.List.{find}
 use Rattle.std.specs.Option.{MatchOption}
 use Rattle.std.proofs.Common.{sym, subst, ◌∙◌, ⊎_elim, arith, rules}
 use Rattle.std.proofs.lemmas.Bool.{cases_lt, le-leb, lt-leb, cond-true, cond-false}
 use Rattle.book.specs.declared.run.Run.{Run}
 use Rattle.book.specs.Runs.{past, left, formed, Pushed, Popped}
-use Rattle.book.specs.RunsLemmas.{opened, closed, formed_less, few, left_in, left_before, longer, begun, shorter, push_on, push_new, pop_on, pop_gone}
+use Rattle.book.specs.RunsLemmas.{opened, closed, formed_less, few, left_in, left_before, longer, shorter, push_on, pop_on, pop_gone}
 
 pub formed_none : (n : ℕ) → formed n [] ≡ true
 unfolding formed

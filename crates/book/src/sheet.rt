@@ -4,7 +4,7 @@ ghost use Rattle.std.specs.Prelude.{◌≡◌, ℕ, ◌^◌, ◌<◌, [], length
 ghost use Rattle.std.specs.List.{take_while};
 ghost use Rattle.word.specs.Words.{has};
 ghost use Rattle.fixed.specs.Items.{listed};
-ghost use Rattle.book.specs.Narrow.{short_listed};
+ghost use Rattle.book.specs.Sheets.{short_listed};
 
 use crate::RunBook;
 use fixed::List;

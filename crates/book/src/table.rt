@@ -39,11 +39,9 @@ impl RunTable {
     fn left(&self, symbol: u8, step: usize) -> usize
         ensures { result ≡ run_from (table_words self.now.rows self.now.size) symbol step }
     {
-        if symbol < 32 {
-            self.rows[usize::from(symbol)].run(step)
-        } else {
-            0
-        }
+        self.rows
+            .get(usize::from(symbol))
+            .map_or(0, |row| row.run(step))
     }
 }
 
@@ -58,6 +56,7 @@ impl RunBook for RunTable {
         *self = RunTable::new();
     }
 
+    #[tactic(auto, using(crate::specs::TablesLemmas::size_is))]
     fn add(&mut self, word: u32) -> bool {
         if self.size == u8::MAX {
             return false;
@@ -80,10 +79,12 @@ impl RunBook for RunTable {
         true
     }
 
+    #[tactic(auto, using(crate::specs::TablesLemmas::size_is))]
     fn size(&self) -> usize {
         usize::from(self.size)
     }
 
+    #[tactic(auto, using(crate::specs::Longest::marked_run))]
     fn mark(&mut self, symbol: u8, step: usize) -> bool {
         self.left(symbol, step) > 0
     }

@@ -1,4 +1,4 @@
-use Rattle.std.proofs.Common.{◌-◌, sym, ◌∙◌, arith, rules}
+use Rattle.std.proofs.Common.{◌-◌, sym, ◌∙◌, rules}
 use Rattle.fixed.specs.Items.{piled}
 use Rattle.book.specs.RunsLemmas.{push_off, push_new}
 use Rattle.book.specs.Rows.{on_row, other_row, none_row, roomy_row}

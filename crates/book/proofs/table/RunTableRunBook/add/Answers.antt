@@ -1,11 +1,8 @@
 use Rattle.std.proofs.Common.{sym, rules}
 use Rattle.word.specs.Words.{has}
 use Rattle.book.specs.Runs.{Pushed}
-use Rattle.book.specs.TablesLemmas.{next_row, done_more, pushed_formed, pushed_words, roomy_is}
+use Rattle.book.specs.TablesLemmas.{next_row, done_more, pushed_formed, pushed_words}
 use Rattle.book.proofs.table.RunTableRunBook.add.Goals as goal
-
-pub loop-symbol-init : goal.loop-symbol-init
-loop-symbol-init c = let long = c.args.self.now.long in search rules
 
 pub push-requires-clause-formed : goal.push-requires-clause-formed
 push-requires-clause-formed c =
@@ -34,12 +31,8 @@ invariant_of-self c =
       formed = pushed_formed b.rows l.row-items b.size c.args.word l.invariant.long b.formed (λ j small. l.invariant.done.0 j (search rules));
     }
 
-pub returns : goal.returns
-returns c =
+pub returns-clause-after : goal.returns-clause-after
+returns-clause-after c =
     let b = c.args.self.now in
     let l = c.loop-symbol in
-    record {
-      answer = roomy_is b.rows b.size (search rules);
-      after =
-          pushed_words b.rows l.row-items b.size c.args.word l.invariant.long b.formed (λ j small. l.invariant.done.0 j (search rules)) (search rules) (search rules);
-    }
+    pushed_words b.rows l.row-items b.size c.args.word l.invariant.long b.formed (λ j small. l.invariant.done.0 j (search rules)) (search rules) (search rules)

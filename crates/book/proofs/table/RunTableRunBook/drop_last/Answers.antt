@@ -3,9 +3,6 @@ use Rattle.book.specs.Runs.{Popped}
 use Rattle.book.specs.TablesLemmas.{next_row, done_more, popped_formed, popped_words}
 use Rattle.book.proofs.table.RunTableRunBook.drop_last.Goals as goal
 
-pub loop-row-init : goal.loop-row-init
-loop-row-init c = let long = c.args.self.now.long in search rules
-
 pub pop-requires : goal.pop-requires
 pop-requires c =
     let b = c.args.self.now in
