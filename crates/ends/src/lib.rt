@@ -74,6 +74,7 @@ impl Ends {
     pub fn len(&self) -> usize
         ensures { result ≡ tally 256 0 (member self.now) }
     {
+        // A loop: of the words of a chain the proof does not know that each has 64 bits.
         let mut total = 0;
         for word in &self.bits {
             total += word.count_ones() as usize;
