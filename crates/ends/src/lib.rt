@@ -103,21 +103,21 @@ impl Ends {
     }
 
     /// The positions of the set, the lowest first.
-    pub fn iter(&self) -> Positions
+    pub fn iter(&self) -> Positions<'_>
         ensures { left result ≡ members self.now }
     {
-        Positions { ends: *self, at: 0 }
+        Positions { ends: self, at: 0 }
     }
 }
 
-impl IntoIterator for &Ends {
+impl<'a> IntoIterator for &'a Ends {
     type Item = u8;
 
-    type IntoIter = Positions;
+    type IntoIter = Positions<'a>;
 
     ghost into_iter_gives = { λ e r. left r ≡ members e.now };
 
-    fn into_iter(self) -> Positions {
+    fn into_iter(self) -> Positions<'a> {
         self.iter()
     }
 }
