@@ -60,8 +60,8 @@ fn keep_repeat(kept: &mut Kept, records: &[Node], steps: &Steps, i: usize)
         return;
     }
     let own = kept.own[i + 1];
-    kept.later[i] = wholes::later(&own, many_of(node), steps.len());
-    kept.stops[i] = wholes::stops(&own, steps.len());
+    kept.later[i] = wholes::later(&own, many_of(node), steps.len() as u8);
+    kept.stops[i] = wholes::stops(&own, steps.len() as u8);
 }
 
 // Keeps what a shape fits, each stretch seen from its own start.
@@ -81,7 +81,7 @@ fn keep_own(kept: &mut Kept, records: &[Node], steps: &Steps, i: usize)
         kept,
         i,
         View::Own,
-        steps.len(),
+        steps.len() as u8,
         16,
         &mut own,
     );

@@ -39,7 +39,7 @@ fn part(
     kept: &Kept,
     i: usize,
     view: View,
-    to: usize,
+    to: u8,
     levels: u8,
     out: &mut Table,
 )
@@ -64,7 +64,7 @@ pub fn seen(
     kept: &Kept,
     i: usize,
     view: View,
-    to: usize,
+    to: u8,
     levels: u8,
     out: &mut Table,
 )
@@ -106,7 +106,7 @@ pub fn seen(
             steps,
             kept,
             i + 1,
-            node.number as usize,
+            node.number,
             view,
             to,
             levels - 1,
@@ -125,7 +125,7 @@ fn any(
     first: usize,
     parts: u8,
     view: View,
-    to: usize,
+    to: u8,
     levels: u8,
     out: &mut Table,
 )
@@ -155,7 +155,7 @@ fn concat(
     first: usize,
     parts: u8,
     view: View,
-    to: usize,
+    to: u8,
     levels: u8,
     out: &mut Table,
 )
@@ -183,7 +183,7 @@ fn repeat(
     kept: &Kept,
     i: usize,
     view: View,
-    to: usize,
+    to: u8,
     levels: u8,
     out: &mut Table,
 )
@@ -210,16 +210,15 @@ fn window(
     steps: &Steps,
     kept: &Kept,
     i: usize,
-    len: usize,
+    len: u8,
     view: View,
-    to: usize,
+    to: u8,
     levels: u8,
     out: &mut Table,
 )
     requires stands { Stands levels records.now Window i }
     requires deep { levels ≤ 16 }
     requires right { RightFrom kept.now records.now (steps_of steps.now) i }
-    requires short { len ≤ 255 }
     requires low { lowest view ≤ to }
     requires high { to ≤ length (steps_of steps.now) }
     ensures { Shows out.new (windowed (rule (steps_of steps.now) records.now i) len) view to (length (steps_of steps.now)) }
@@ -238,19 +237,21 @@ fn own_starts(
     steps: &Steps,
     kept: &Kept,
     i: usize,
-    len: usize,
-    to: usize,
+    len: u8,
+    to: u8,
     levels: u8,
 ) -> Ends
     requires stands { Stands levels records.now Window i }
     requires deep { levels ≤ 16 }
     requires right { RightFrom kept.now records.now (steps_of steps.now) i }
-    requires short { len ≤ 255 }
     requires high { to ≤ length (steps_of steps.now) }
     ensures { Starts result (rule (steps_of steps.now) records.now i) Own len to }
 {
     let mut out = Ends::empty();
-    for a in 0..(to + 1).saturating_sub(len) {
+    if len > to {
+        return out;
+    }
+    for a in 0..=to - len {
         if starts(records, steps, kept, i, a, len, a + len, levels).contains(a) {
             out.insert(a);
         }
@@ -265,20 +266,19 @@ fn starts(
     steps: &Steps,
     kept: &Kept,
     i: usize,
-    s: usize,
-    len: usize,
-    to: usize,
+    s: u8,
+    len: u8,
+    to: u8,
     levels: u8,
 ) -> Ends
     requires stands { Stands levels records.now Window i }
     requires deep { levels ≤ 16 }
     requires right { RightFrom kept.now records.now (steps_of steps.now) i }
-    requires short { len ≤ 255 }
     requires low { s ≤ to }
     requires high { to ≤ length (steps_of steps.now) }
     ensures { Starts result (rule (steps_of steps.now) records.now i) (From s) len to }
 {
-    if s + len > to {
+    if len > to - s {
         return Ends::empty();
     }
     let node = records[i];
@@ -338,9 +338,9 @@ fn count_starts(
     kept: &Kept,
     i: usize,
     many: Many,
-    s: usize,
-    len: usize,
-    to: usize,
+    s: u8,
+    len: u8,
+    to: u8,
     levels: u8,
 ) -> Ends
     requires stands { Stands levels records.now Shape i }
@@ -372,9 +372,9 @@ fn and_starts(
     kept: &Kept,
     first: usize,
     parts: u8,
-    s: usize,
-    len: usize,
-    to: usize,
+    s: u8,
+    len: u8,
+    to: u8,
     levels: u8,
 ) -> Ends
     requires each { EachStands levels records.now Count parts first }
@@ -401,9 +401,9 @@ fn or_starts(
     kept: &Kept,
     first: usize,
     parts: u8,
-    s: usize,
-    len: usize,
-    to: usize,
+    s: u8,
+    len: u8,
+    to: u8,
     levels: u8,
 ) -> Ends
     requires each { EachStands levels records.now Count parts first }
@@ -430,9 +430,9 @@ fn inorder_starts(
     kept: &Kept,
     first: usize,
     parts: u8,
-    s: usize,
-    len: usize,
-    to: usize,
+    s: u8,
+    len: u8,
+    to: u8,
     levels: u8,
 ) -> Ends
     requires each { EachStands levels records.now Shape parts first }

@@ -18,16 +18,13 @@ use Rattle.walk.proofs.Going.{shows_own, later_as, right_on, ready_at, one_part,
 use Rattle.walk.proofs.walk.+walk.Goals as goal
 use Rattle.walk.proofs.walk.+walk.Goals.{window-in-From, window-in-Own}
 
-pub and_starts-range-out-requires : goal.and_starts-range-out-requires
-and_starts-range-out-requires t c = let n = steps_few c.args.steps.now in let h = c.requires.high in search rules
-
 pub and_starts-starts-requires : goal.and_starts-starts-requires
 and_starts-starts-requires t c =
     let p = one_part c.args.kept.now c.args.records.now (steps_of c.args.steps.now) c.args.levels Count c.args.first (c.args.parts - c.loop-k.k) (c.args.parts - (c.loop-k.k + 1)) c.loop-k.next c.requires.deep (omega arith) c.requires.right c.loop-k.invariant.0 in
     let n = steps_few c.args.steps.now in
     let h = c.requires.high in
     let s = c.requires.low in
-    (omega arith, (count_window c.args.levels c.args.records.now c.loop-k.next c.requires.deep p.here, (c.requires.deep, (p.right, (omega arith, (omega arith, c.requires.high))))))
+    (omega arith, (count_window c.args.levels c.args.records.now c.loop-k.next c.requires.deep p.here, (c.requires.deep, (p.right, (omega arith, c.requires.high)))))
 
 pub and_starts-offset_bounds-kept-next : goal.and_starts-offset_bounds-kept-next
 and_starts-offset_bounds-kept-next t c = let p = one_part c.args.kept.now c.args.records.now (steps_of c.args.steps.now) c.args.levels Count c.args.first (c.args.parts - c.loop-k.k) (c.args.parts - (c.loop-k.k + 1)) c.loop-k.next c.requires.deep (omega arith) c.requires.right c.loop-k.invariant.0 in search rules
@@ -55,7 +52,7 @@ or_starts-starts-requires t c =
     let n = steps_few c.args.steps.now in
     let h = c.requires.high in
     let s = c.requires.low in
-    (omega arith, (count_window c.args.levels c.args.records.now c.loop-k.next c.requires.deep p.here, (c.requires.deep, (p.right, (omega arith, (omega arith, c.requires.high))))))
+    (omega arith, (count_window c.args.levels c.args.records.now c.loop-k.next c.requires.deep p.here, (c.requires.deep, (p.right, (omega arith, c.requires.high)))))
 
 pub or_starts-offset_bounds-kept-next : goal.or_starts-offset_bounds-kept-next
 or_starts-offset_bounds-kept-next t c = let p = one_part c.args.kept.now c.args.records.now (steps_of c.args.steps.now) c.args.levels Count c.args.first (c.args.parts - c.loop-k.k) (c.args.parts - (c.loop-k.k + 1)) c.loop-k.next c.requires.deep (omega arith) c.requires.right c.loop-k.invariant.0 in search rules
@@ -226,15 +223,6 @@ inorder_starts-returns t c =
       λ h. (c.within.ensures a).1 (h.0, h.1, (placed a (a + c.args.len) h.0 (omega arith) h.1).0 h.2),
     )
 
-pub own_starts-overflow_add-to : goal.own_starts-overflow_add-to
-own_starts-overflow_add-to t c = let n = steps_few c.args.steps.now in let h = c.requires.high in search rules
-
-pub own_starts-contains-requires : goal.own_starts-contains-requires
-own_starts-contains-requires t c = let n = steps_few c.args.steps.now in let h = c.requires.high in search rules
-
-pub own_starts-insert-requires : goal.own_starts-insert-requires
-own_starts-insert-requires t c = let n = steps_few c.args.steps.now in let h = c.requires.high in search rules
-
 pub part-seen-requires : goal.part-seen-requires
 part-seen-requires t c = (
   omega arith,
@@ -263,9 +251,6 @@ pub part-returns-in-Own : goal.part-returns-in-Own
 part-returns-in-Own t c =
     shows_own _ (rule (steps_of c.args.steps.now) c.args.records.now c.args.i) c.args.view c.args.to (length (steps_of c.args.steps.now)) c.in-Own.is c.requires.high
     ((c.requires.right.right c.args.i (omega arith)).own (lifted c.args.levels c.args.records.now Shape c.args.i c.requires.deep c.requires.stands) _)
-
-pub repeat-repeat-requires : goal.repeat-repeat-requires
-repeat-repeat-requires t c = let n = steps_few c.args.steps.now in let h = c.requires.high in search rules
 
 pub repeat-returns : goal.repeat-returns
 repeat-returns t c =
@@ -322,7 +307,7 @@ seen-window-requires t c =
     let o = opened c.args.levels c.args.records.now Shape c.args.i c.requires.deep c.requires.stands in
     let dd = o.deep in
     let deep = c.requires.deep in
-    (omega arith, (part_of_in (steps_of c.args.steps.now) c.args.levels c.args.records.now Shape c.args.i o c.requires.deep c.in-In.is, (omega arith, (c.requires.right, (search rules, (c.requires.low, c.requires.high))))))
+    (omega arith, (part_of_in (steps_of c.args.steps.now) c.args.levels c.args.records.now Shape c.args.i o c.requires.deep c.in-In.is, (omega arith, (c.requires.right, (c.requires.low, c.requires.high)))))
 
 pub seen-repeat-requires : goal.seen-repeat-requires
 seen-repeat-requires t c =
@@ -357,9 +342,6 @@ seen-returns-in_default t c =
     let o = opened c.args.levels c.args.records.now Shape c.args.i c.requires.deep c.requires.stands in
     let e = repeat_kind (query_at c.args.records.now c.args.i).kind o.kind_right c.in_default.not-Symbol c.in_default.not-Any c.in_default.not-Concat c.in_default.not-In in
     subst (λ (P : Rule). Shows c.repeat.new.out P c.args.view c.args.to (length (steps_of c.args.steps.now))) (sym (as_repeat (steps_of c.args.steps.now) c.args.levels c.args.records.now c.args.i c.requires.deep o e).1) c.repeat.ensures
-
-pub starts-overflow_add-s : goal.starts-overflow_add-s
-starts-overflow_add-s t c = let n = steps_few c.args.steps.now in let h = c.requires.high in let s = c.requires.low in search rules
 
 pub starts-offset_bounds-records-i : goal.starts-offset_bounds-records-i
 starts-offset_bounds-records-i t c = let o = opened c.args.levels c.args.records.now Window c.args.i c.requires.deep c.requires.stands in let f = c.requires.right.few in search rules
@@ -469,7 +451,7 @@ window-shifted-requires t c =
       | window-in-From w ↦ rw (w.in-From.is, w.begins-is) (search rules)
       | window-in-Own w ↦ rw (w.in-Own.is, w.begins-is) (search rules)
     ] in
-    record { small = omega arith; within = λ a u. ((begins a).0 u).1 }
+    λ a u. ((begins a).0 u).1
 
 pub window-returns : goal.window-returns
 window-returns t c =
