@@ -52,7 +52,7 @@ fn part(
 {
     match view {
         View::From(_) => seen(records, steps, kept, i, view, to, levels, out),
-        View::Own => *out = kept.own[i],
+        View::Own => *out = kept.entries[i].own,
     }
 }
 
@@ -142,7 +142,7 @@ fn any(
         let mut table = Table::empty();
         part(records, steps, kept, next, view, to, levels, &mut table);
         out.union_with(&table);
-        next = kept.next[next];
+        next = kept.entries[next].next;
     }
 }
 
@@ -168,10 +168,10 @@ fn concat(
     ensures { Shows out.new (sequence (rules (steps_of steps.now) records.now parts first)) view to (length (steps_of steps.now)) }
 {
     part(records, steps, kept, first, view, to, levels, out);
-    let mut next = kept.next[first];
+    let mut next = kept.entries[first].next;
     for k in 1..parts {
-        *out = out.then(&kept.own[next]);
-        next = kept.next[next];
+        *out = out.then(&kept.entries[next].own);
+        next = kept.entries[next].next;
     }
 }
 
@@ -200,7 +200,14 @@ fn repeat(
     let many = many_of(records[i]);
     let mut opening = Table::empty();
     part(records, steps, kept, i + 1, view, to, levels, &mut opening);
-    *out = wholes::repeat(&opening, &kept.later[i], &kept.stops[i], many, view, to);
+    *out = wholes::repeat(
+        &opening,
+        &kept.entries[i].later,
+        &kept.entries[i].stops,
+        many,
+        view,
+        to,
+    );
 }
 
 // The windows of a length of which the condition at record i holds.
@@ -388,7 +395,7 @@ fn and_starts(
     let mut next = first;
     for k in 0..parts {
         out.keep(&starts(records, steps, kept, next, s, len, to, levels));
-        next = kept.next[next];
+        next = kept.entries[next].next;
     }
     out
 }
@@ -417,7 +424,7 @@ fn or_starts(
     let mut next = first;
     for k in 0..parts {
         out.union_with(&starts(records, steps, kept, next, s, len, to, levels));
-        next = kept.next[next];
+        next = kept.entries[next].next;
     }
     out
 }
@@ -457,7 +464,7 @@ fn inorder_starts(
             &mut table,
         );
         reach = reach.advance(&Reach::earliest(&table));
-        next = kept.next[next];
+        next = kept.entries[next].next;
     }
     reach.within(s, len, to)
 }

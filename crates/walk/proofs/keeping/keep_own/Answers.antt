@@ -26,10 +26,10 @@ bounds-kept-i c = let o = opened 16 c.args.records.now c.requires.stands.0 c.arg
 
 pub returns-then-not-may_stand : goal.returns-then-not-may_stand
 returns-then-not-may_stand c = record {
-  nexts = refl;
-  laters = refl;
-  all_stops = refl;
-  owns = λ x ne d. refl;
+  others = λ x ne d. refl;
+  next = λ d. refl;
+  later = λ d. refl;
+  stops = λ d. refl;
   here = λ u d. absurd (false≢true (sym (sym c.may_stand.ensures ∙ c.if-not-may_stand.true) ∙ (opened 16 c.args.records.now Shape c.args.i (omega arith) u).kind_right));
 }
 
@@ -40,6 +40,7 @@ seen-requires c =
 
 pub returns : goal.returns
 returns c =
-    let o = opened 16 c.args.records.now c.requires.stands.0 c.args.i (omega arith) c.requires.stands.1 in let f = c.requires.right.few in
-    own_kept c.args.kept.now _ c.args.records.now (steps_of c.args.steps.now) c.args.i c.seen.new.out (omega arith) refl refl refl refl
+    let o = opened 16 c.args.records.now c.requires.stands.0 c.args.i (omega arith) c.requires.stands.1 in
+    let f = c.requires.right.few in
+    own_kept c.args.kept.now _ c.args.i _ (omega arith) refl c.args.records.now (steps_of c.args.steps.now) c.index-kept-i.result refl refl refl
     (subst (λ (n : ℕ). Shows c.seen.new.out (rule (steps_of c.args.steps.now) c.args.records.now c.args.i) Own n (length (steps_of c.args.steps.now))) c.len.ensures.length c.seen.ensures)

@@ -1,4 +1,4 @@
-use Rattle.std.proofs.Common.{◌≡◌, ℕ, ◌+◌, ◌-◌, List, length, get_or, sym, refl, subst, arith, rules}
+use Rattle.std.proofs.Common.{◌≡◌, ℕ, ◌+◌, ◌-◌, List, length, sym, refl, subst, arith, rules}
 use Rattle.query.specs.declared.node.Kind.TheVariants.{Any, Concat, And, Or, Inorder}
 use Rattle.query.specs.declared.node.Role.TheVariants.{Shape, Window, Count}
 use Rattle.query.specs.Stands.{at as query_at}
@@ -12,7 +12,7 @@ use Rattle.wholes.specs.Shows.{Shows, Starts, repeated, counting}
 use Rattle.wholes.specs.Turns.{at}
 use Rattle.wholes.proofs.Joining.{Either, either_more, either_all, Sequel, sequel_start, sequel_more, sequel_all, AnyStart, any_start_more, any_start_all, AllStart, all_start_more, all_start_all}
 use Rattle.wholes.proofs.Placing.{Reaches, reaches_start, reaches_more, reaches_all}
-use Rattle.walk.specs.Walk.{rule, rules as rules_of}
+use Rattle.walk.specs.Walk.{entry, rule, rules as rules_of}
 use Rattle.walk.proofs.Walking.{Left, opened, lifted, count_window, rules_none}
 use Rattle.walk.proofs.Going.{shows_own, later_as, right_on, ready_at, one_part, as_symbol, as_any, as_concat, as_in, as_and, as_or, as_inorder, parts_in, some_parts, part_of_in, repeat_kind, as_repeat, as_count}
 use Rattle.walk.proofs.walk.+walk.Goals as goal
@@ -35,13 +35,16 @@ and_starts-offset_bounds-kept-next t c = let p = one_part c.args.kept.now c.args
 pub and_starts-bounds-kept-next : goal.and_starts-bounds-kept-next
 and_starts-bounds-kept-next t c = let p = one_part c.args.kept.now c.args.records.now (steps_of c.args.steps.now) c.args.levels Count c.args.first (c.args.parts - c.loop-k.k) (c.args.parts - (c.loop-k.k + 1)) c.loop-k.next c.requires.deep (omega arith) c.requires.right c.loop-k.invariant.0 in search rules
 
+pub and_starts-listed : goal.and_starts-listed
+and_starts-listed t c = let p = one_part c.args.kept.now c.args.records.now (steps_of c.args.steps.now) c.args.levels Count c.args.first (c.args.parts - c.loop-k.k) (c.args.parts - (c.loop-k.k + 1)) c.loop-k.next c.requires.deep (omega arith) c.requires.right c.loop-k.invariant.0 in search rules
+
 pub and_starts-loop-k-preserved : goal.and_starts-loop-k-preserved
 and_starts-loop-k-preserved t c =
     let p = one_part c.args.kept.now c.args.records.now (steps_of c.args.steps.now) c.args.levels Count c.args.first (c.args.parts - c.loop-k.k) (c.args.parts - (c.loop-k.k + 1)) c.loop-k.next c.requires.deep (omega arith) c.requires.right c.loop-k.invariant.0 in (
-      p.left,
-      all_start_more (rules_of (steps_of c.args.steps.now) c.args.records.now c.args.parts c.args.first) c.args.s c.args.len c.args.to (rule (steps_of c.args.steps.now) c.args.records.now c.loop-k.next) (rules_of (steps_of c.args.steps.now) c.args.records.now (c.args.parts - (c.loop-k.k + 1)) (get_or c.args.kept.now.next c.loop-k.next 0))
+      p.left _,
+      all_start_more (rules_of (steps_of c.args.steps.now) c.args.records.now c.args.parts c.args.first) c.args.s c.args.len c.args.to (rule (steps_of c.args.steps.now) c.args.records.now c.loop-k.next) (rules_of (steps_of c.args.steps.now) c.args.records.now (c.args.parts - (c.loop-k.k + 1)) (entry c.args.kept.now c.loop-k.next c.index-kept-next.result).next)
           (member c.loop-k.out) (member c.starts.result) (member c.keep.new.self) c.starts.ensures c.keep.ensures
-          (subst (λ (R : List Rule). AllStart (rules_of (steps_of c.args.steps.now) c.args.records.now c.args.parts c.args.first) c.args.s c.args.len c.args.to R (member c.loop-k.out)) p.rules_are c.loop-k.invariant.1),
+          (subst (λ (R : List Rule). AllStart (rules_of (steps_of c.args.steps.now) c.args.records.now c.args.parts c.args.first) c.args.s c.args.len c.args.to R (member c.loop-k.out)) (p.rules_are _) c.loop-k.invariant.1),
     )
 
 pub and_starts-returns : goal.and_starts-returns
@@ -63,13 +66,16 @@ or_starts-offset_bounds-kept-next t c = let p = one_part c.args.kept.now c.args.
 pub or_starts-bounds-kept-next : goal.or_starts-bounds-kept-next
 or_starts-bounds-kept-next t c = let p = one_part c.args.kept.now c.args.records.now (steps_of c.args.steps.now) c.args.levels Count c.args.first (c.args.parts - c.loop-k.k) (c.args.parts - (c.loop-k.k + 1)) c.loop-k.next c.requires.deep (omega arith) c.requires.right c.loop-k.invariant.0 in search rules
 
+pub or_starts-listed : goal.or_starts-listed
+or_starts-listed t c = let p = one_part c.args.kept.now c.args.records.now (steps_of c.args.steps.now) c.args.levels Count c.args.first (c.args.parts - c.loop-k.k) (c.args.parts - (c.loop-k.k + 1)) c.loop-k.next c.requires.deep (omega arith) c.requires.right c.loop-k.invariant.0 in search rules
+
 pub or_starts-loop-k-preserved : goal.or_starts-loop-k-preserved
 or_starts-loop-k-preserved t c =
     let p = one_part c.args.kept.now c.args.records.now (steps_of c.args.steps.now) c.args.levels Count c.args.first (c.args.parts - c.loop-k.k) (c.args.parts - (c.loop-k.k + 1)) c.loop-k.next c.requires.deep (omega arith) c.requires.right c.loop-k.invariant.0 in (
-      p.left,
-      any_start_more (rules_of (steps_of c.args.steps.now) c.args.records.now c.args.parts c.args.first) c.args.s c.args.len c.args.to (rule (steps_of c.args.steps.now) c.args.records.now c.loop-k.next) (rules_of (steps_of c.args.steps.now) c.args.records.now (c.args.parts - (c.loop-k.k + 1)) (get_or c.args.kept.now.next c.loop-k.next 0))
+      p.left _,
+      any_start_more (rules_of (steps_of c.args.steps.now) c.args.records.now c.args.parts c.args.first) c.args.s c.args.len c.args.to (rule (steps_of c.args.steps.now) c.args.records.now c.loop-k.next) (rules_of (steps_of c.args.steps.now) c.args.records.now (c.args.parts - (c.loop-k.k + 1)) (entry c.args.kept.now c.loop-k.next c.index-kept-next.result).next)
           (member c.loop-k.out) (member c.starts.result) (member c.union_with.new.self) c.starts.ensures c.union_with.ensures
-          (subst (λ (R : List Rule). AnyStart (rules_of (steps_of c.args.steps.now) c.args.records.now c.args.parts c.args.first) c.args.s c.args.len c.args.to R (member c.loop-k.out)) p.rules_are c.loop-k.invariant.1),
+          (subst (λ (R : List Rule). AnyStart (rules_of (steps_of c.args.steps.now) c.args.records.now c.args.parts c.args.first) c.args.s c.args.len c.args.to R (member c.loop-k.out)) (p.rules_are _) c.loop-k.invariant.1),
     )
 
 pub or_starts-returns : goal.or_starts-returns
@@ -86,13 +92,16 @@ any-offset_bounds-kept-next t c = let p = one_part c.args.kept.now c.args.record
 pub any-bounds-kept-next : goal.any-bounds-kept-next
 any-bounds-kept-next t c = let p = one_part c.args.kept.now c.args.records.now (steps_of c.args.steps.now) c.args.levels Shape c.args.first (c.args.parts - c.loop-k.k) (c.args.parts - (c.loop-k.k + 1)) c.loop-k.next c.requires.deep (omega arith) c.requires.right c.loop-k.invariant.0 in search rules
 
+pub any-listed : goal.any-listed
+any-listed t c = let p = one_part c.args.kept.now c.args.records.now (steps_of c.args.steps.now) c.args.levels Shape c.args.first (c.args.parts - c.loop-k.k) (c.args.parts - (c.loop-k.k + 1)) c.loop-k.next c.requires.deep (omega arith) c.requires.right c.loop-k.invariant.0 in search rules
+
 pub any-loop-k-preserved : goal.any-loop-k-preserved
 any-loop-k-preserved t c =
     let p = one_part c.args.kept.now c.args.records.now (steps_of c.args.steps.now) c.args.levels Shape c.args.first (c.args.parts - c.loop-k.k) (c.args.parts - (c.loop-k.k + 1)) c.loop-k.next c.requires.deep (omega arith) c.requires.right c.loop-k.invariant.0 in (
-      p.left,
-      either_more (rules_of (steps_of c.args.steps.now) c.args.records.now c.args.parts c.args.first) c.args.view c.args.to (length (steps_of c.args.steps.now)) (rule (steps_of c.args.steps.now) c.args.records.now c.loop-k.next) (rules_of (steps_of c.args.steps.now) c.args.records.now (c.args.parts - (c.loop-k.k + 1)) (get_or c.args.kept.now.next c.loop-k.next 0))
+      p.left _,
+      either_more (rules_of (steps_of c.args.steps.now) c.args.records.now c.args.parts c.args.first) c.args.view c.args.to (length (steps_of c.args.steps.now)) (rule (steps_of c.args.steps.now) c.args.records.now c.loop-k.next) (rules_of (steps_of c.args.steps.now) c.args.records.now (c.args.parts - (c.loop-k.k + 1)) (entry c.args.kept.now c.loop-k.next c.index-kept-next.result).next)
           c.loop-k.out c.part.new.out c.union_with.new.self c.requires.high c.part.ensures c.union_with.ensures
-          (subst (λ (R : List Rule). Either (rules_of (steps_of c.args.steps.now) c.args.records.now c.args.parts c.args.first) R c.args.view c.args.to (length (steps_of c.args.steps.now)) c.loop-k.out) p.rules_are c.loop-k.invariant.1),
+          (subst (λ (R : List Rule). Either (rules_of (steps_of c.args.steps.now) c.args.records.now c.args.parts c.args.first) R c.args.view c.args.to (length (steps_of c.args.steps.now)) c.loop-k.out) (p.rules_are _) c.loop-k.invariant.1),
     )
 
 pub any-returns : goal.any-returns
@@ -110,13 +119,19 @@ pub concat-bounds-kept-first : goal.concat-bounds-kept-first
 concat-bounds-kept-first t c = let p = one_part c.args.kept.now c.args.records.now (steps_of c.args.steps.now) c.args.levels Shape c.args.first c.args.parts (c.args.parts - 1) c.args.first c.requires.deep (let s = c.requires.some in omega arith) c.requires.right (record { each = c.requires.each; further = omega arith }) in search rules
 
 pub concat-loop-k-init : goal.concat-loop-k-init
-concat-loop-k-init t c = let p = one_part c.args.kept.now c.args.records.now (steps_of c.args.steps.now) c.args.levels Shape c.args.first c.args.parts (c.args.parts - 1) c.args.first c.requires.deep (let s = c.requires.some in omega arith) c.requires.right (record { each = c.requires.each; further = omega arith }) in (p.left, λ v s. s)
+concat-loop-k-init t c = let p = one_part c.args.kept.now c.args.records.now (steps_of c.args.steps.now) c.args.levels Shape c.args.first c.args.parts (c.args.parts - 1) c.args.first c.requires.deep (let s = c.requires.some in omega arith) c.requires.right (record { each = c.requires.each; further = omega arith }) in (p.left _, λ v s. s)
 
 pub concat-offset_bounds-kept-next : goal.concat-offset_bounds-kept-next
 concat-offset_bounds-kept-next t c = let p = one_part c.args.kept.now c.args.records.now (steps_of c.args.steps.now) c.args.levels Shape c.args.first (c.args.parts - c.loop-k.k) (c.args.parts - (c.loop-k.k + 1)) c.loop-k.next c.requires.deep (omega arith) c.requires.right c.loop-k.invariant.0 in search rules
 
+pub concat-listed-in-loop-k : goal.concat-listed-in-loop-k
+concat-listed-in-loop-k t c = let p = one_part c.args.kept.now c.args.records.now (steps_of c.args.steps.now) c.args.levels Shape c.args.first (c.args.parts - c.loop-k.k) (c.args.parts - (c.loop-k.k + 1)) c.loop-k.next c.requires.deep (omega arith) c.requires.right c.loop-k.invariant.0 in search rules
+
+pub concat-listed-in-loop-k-2 : goal.concat-listed-in-loop-k-2
+concat-listed-in-loop-k-2 t c = let p = one_part c.args.kept.now c.args.records.now (steps_of c.args.steps.now) c.args.levels Shape c.args.first (c.args.parts - c.loop-k.k) (c.args.parts - (c.loop-k.k + 1)) c.loop-k.next c.requires.deep (omega arith) c.requires.right c.loop-k.invariant.0 in search rules
+
 pub concat-listed : goal.concat-listed
-concat-listed t c = let p = one_part c.args.kept.now c.args.records.now (steps_of c.args.steps.now) c.args.levels Shape c.args.first (c.args.parts - c.loop-k.k) (c.args.parts - (c.loop-k.k + 1)) c.loop-k.next c.requires.deep (omega arith) c.requires.right c.loop-k.invariant.0 in search rules
+concat-listed t c = let p = one_part c.args.kept.now c.args.records.now (steps_of c.args.steps.now) c.args.levels Shape c.args.first c.args.parts (c.args.parts - 1) c.args.first c.requires.deep (let s = c.requires.some in omega arith) c.requires.right (record { each = c.requires.each; further = omega arith }) in search rules
 
 pub concat-bounds-kept-next : goal.concat-bounds-kept-next
 concat-bounds-kept-next t c = let p = one_part c.args.kept.now c.args.records.now (steps_of c.args.steps.now) c.args.levels Shape c.args.first (c.args.parts - c.loop-k.k) (c.args.parts - (c.loop-k.k + 1)) c.loop-k.next c.requires.deep (omega arith) c.requires.right c.loop-k.invariant.0 in search rules
@@ -130,19 +145,19 @@ concat-bounds-kept-next-in-loop-k t c = let p = one_part c.args.kept.now c.args.
 pub concat-loop-k-preserved : goal.concat-loop-k-preserved
 concat-loop-k-preserved t c =
     let p = one_part c.args.kept.now c.args.records.now (steps_of c.args.steps.now) c.args.levels Shape c.args.first (c.args.parts - c.loop-k.k) (c.args.parts - (c.loop-k.k + 1)) c.loop-k.next c.requires.deep (omega arith) c.requires.right c.loop-k.invariant.0 in (
-      p.left,
+      p.left _,
       λ v s.
-          sequel_more v c.args.to (length (steps_of c.args.steps.now)) c.requires.high (rules_of (steps_of c.args.steps.now) c.args.records.now c.args.parts c.args.first) (rule (steps_of c.args.steps.now) c.args.records.now c.loop-k.next) (rules_of (steps_of c.args.steps.now) c.args.records.now (c.args.parts - (c.loop-k.k + 1)) (get_or c.args.kept.now.next c.loop-k.next 0))
+          sequel_more v c.args.to (length (steps_of c.args.steps.now)) c.requires.high (rules_of (steps_of c.args.steps.now) c.args.records.now c.args.parts c.args.first) (rule (steps_of c.args.steps.now) c.args.records.now c.loop-k.next) (rules_of (steps_of c.args.steps.now) c.args.records.now (c.args.parts - (c.loop-k.k + 1)) (entry c.args.kept.now c.loop-k.next c.index-kept-next-in-loop-k.result).next)
           c.loop-k.out _ c.then.result (p.own refl _) c.then.ensures
-          (subst (λ (R : List Rule). Sequel (rules_of (steps_of c.args.steps.now) c.args.records.now c.args.parts c.args.first) R v c.args.to (length (steps_of c.args.steps.now)) c.loop-k.out) p.rules_are (c.loop-k.invariant.1 v s)),
+          (subst (λ (R : List Rule). Sequel (rules_of (steps_of c.args.steps.now) c.args.records.now c.args.parts c.args.first) R v c.args.to (length (steps_of c.args.steps.now)) c.loop-k.out) (p.rules_are _) (c.loop-k.invariant.1 v s)),
     )
 
 pub concat-returns : goal.concat-returns
 concat-returns t c =
     let p = one_part c.args.kept.now c.args.records.now (steps_of c.args.steps.now) c.args.levels Shape c.args.first c.args.parts (c.args.parts - 1) c.args.first c.requires.deep (let s = c.requires.some in omega arith) c.requires.right (record { each = c.requires.each; further = omega arith }) in
-    let left : List Rule = rules_of (steps_of c.args.steps.now) c.args.records.now (c.args.parts - 1) (get_or c.args.kept.now.next c.args.first 0) in
+    let left : List Rule = rules_of (steps_of c.args.steps.now) c.args.records.now (c.args.parts - 1) (entry c.args.kept.now c.args.first c.index-kept-first.result).next in
     let began : Sequel (rules_of (steps_of c.args.steps.now) c.args.records.now c.args.parts c.args.first) left c.args.view c.args.to (length (steps_of c.args.steps.now)) c.part.new.out =
-    subst (λ (R : List Rule). Sequel R left c.args.view c.args.to (length (steps_of c.args.steps.now)) c.part.new.out) (sym p.rules_are)
+    subst (λ (R : List Rule). Sequel R left c.args.view c.args.to (length (steps_of c.args.steps.now)) c.part.new.out) (sym (p.rules_are _))
     (sequel_start c.args.view c.args.to (length (steps_of c.args.steps.now)) c.requires.high (rule (steps_of c.args.steps.now) c.args.records.now c.args.first) left c.part.new.out c.part.ensures) in
     sequel_all c.args.view c.args.to (length (steps_of c.args.steps.now)) c.requires.high (rules_of (steps_of c.args.steps.now) c.args.records.now c.args.parts c.args.first) c.loop-k.out
     (subst (λ (R : List Rule). Sequel (rules_of (steps_of c.args.steps.now) c.args.records.now c.args.parts c.args.first) R c.args.view c.args.to (length (steps_of c.args.steps.now)) c.loop-k.out) (rules_none (steps_of c.args.steps.now) c.args.records.now (c.args.parts - c.loop-k.k) c.loop-k.next (omega arith)) (c.loop-k.invariant.1 c.args.view began))
@@ -204,14 +219,17 @@ inorder_starts-offset_bounds-kept-next t c = let p = one_part c.args.kept.now c.
 pub inorder_starts-bounds-kept-next : goal.inorder_starts-bounds-kept-next
 inorder_starts-bounds-kept-next t c = let p = one_part c.args.kept.now c.args.records.now (steps_of c.args.steps.now) c.args.levels Shape c.args.first (c.args.parts - c.loop-k.k) (c.args.parts - (c.loop-k.k + 1)) c.loop-k.next c.requires.deep (omega arith) c.requires.right c.loop-k.invariant.0 in search rules
 
+pub inorder_starts-listed : goal.inorder_starts-listed
+inorder_starts-listed t c = let p = one_part c.args.kept.now c.args.records.now (steps_of c.args.steps.now) c.args.levels Shape c.args.first (c.args.parts - c.loop-k.k) (c.args.parts - (c.loop-k.k + 1)) c.loop-k.next c.requires.deep (omega arith) c.requires.right c.loop-k.invariant.0 in search rules
+
 pub inorder_starts-loop-k-preserved : goal.inorder_starts-loop-k-preserved
 inorder_starts-loop-k-preserved t c =
     let p = one_part c.args.kept.now c.args.records.now (steps_of c.args.steps.now) c.args.levels Shape c.args.first (c.args.parts - c.loop-k.k) (c.args.parts - (c.loop-k.k + 1)) c.loop-k.next c.requires.deep (omega arith) c.requires.right c.loop-k.invariant.0 in
     let n = steps_few c.args.steps.now in (
-      p.left,
-      reaches_more (rule (steps_of c.args.steps.now) c.args.records.now c.loop-k.next) (rules_of (steps_of c.args.steps.now) c.args.records.now c.args.parts c.args.first) (rules_of (steps_of c.args.steps.now) c.args.records.now (c.args.parts - (c.loop-k.k + 1)) (get_or c.args.kept.now.next c.loop-k.next 0)) c.args.s c.args.to (length (steps_of c.args.steps.now)) c.seen.new.out (at c.loop-k.reach) (at c.advance-reach.result) (at c.earliest.result)
+      p.left _,
+      reaches_more (rule (steps_of c.args.steps.now) c.args.records.now c.loop-k.next) (rules_of (steps_of c.args.steps.now) c.args.records.now c.args.parts c.args.first) (rules_of (steps_of c.args.steps.now) c.args.records.now (c.args.parts - (c.loop-k.k + 1)) (entry c.args.kept.now c.loop-k.next c.index-kept-next.result).next) c.args.s c.args.to (length (steps_of c.args.steps.now)) c.seen.new.out (at c.loop-k.reach) (at c.advance-reach.result) (at c.earliest.result)
           c.requires.high (omega arith) c.seen.ensures c.earliest.ensures c.advance-reach.ensures c.advance-reach.result.small
-          (subst (λ (R : List Rule). Reaches (rules_of (steps_of c.args.steps.now) c.args.records.now c.args.parts c.args.first) R c.args.s c.args.to (at c.loop-k.reach)) p.rules_are c.loop-k.invariant.1),
+          (subst (λ (R : List Rule). Reaches (rules_of (steps_of c.args.steps.now) c.args.records.now c.args.parts c.args.first) R c.args.s c.args.to (at c.loop-k.reach)) (p.rules_are _) c.loop-k.invariant.1),
     )
 
 pub inorder_starts-within-requires : goal.inorder_starts-within-requires
@@ -273,8 +291,8 @@ repeat-returns t c =
     let up = lifted c.args.levels c.args.records.now Shape (c.args.i + 1) c.requires.deep c.requires.stands in
     subst (λ (m : Many). Shows c.repeat.result (repeated (length (steps_of c.args.steps.now)) (rule (steps_of c.args.steps.now) c.args.records.now (c.args.i + 1)) m) c.args.view c.args.to (length (steps_of c.args.steps.now))) c.many_of-many.ensures
     (c.repeat.ensures (rule (steps_of c.args.steps.now) c.args.records.now (c.args.i + 1)) (length (steps_of c.args.steps.now)) c.requires.high (omega arith) c.part.ensures
-    (later_as c.args.kept.now.later c.args.i (rule (steps_of c.args.steps.now) c.args.records.now (c.args.i + 1)) _ _ (length (steps_of c.args.steps.now)) c.many_of-many.ensures (c.requires.ready.later c.requires.repeats up) _)
-    (c.requires.ready.stops c.requires.repeats up))
+    (later_as _ (rule (steps_of c.args.steps.now) c.args.records.now (c.args.i + 1)) _ _ (length (steps_of c.args.steps.now)) c.many_of-many.ensures (c.requires.ready.later c.requires.repeats up _))
+    (c.requires.ready.stops c.requires.repeats up _))
 
 pub seen-offset_bounds-records-i : goal.seen-offset_bounds-records-i
 seen-offset_bounds-records-i t c = let o = opened c.args.levels c.args.records.now Shape c.args.i c.requires.deep c.requires.stands in let f = c.requires.right.few in search rules
