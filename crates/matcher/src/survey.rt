@@ -17,7 +17,7 @@ use query::Node;
 use shape::Stretch;
 use steps::Steps;
 use tables::Table;
-use walk::{Kept, keep, seen};
+use walk::{Kept, Sight, Walk, keep};
 use wholes::View;
 
 // The stretches that the query fits, null ones too.
@@ -29,17 +29,18 @@ fn survey(records: &[Node], steps: &Steps) -> Table
     for i in (0..records.len()).rev() {
         keep(&mut kept, records, steps, i);
     }
+    let sight = Sight {
+        walk: Walk {
+            records,
+            steps,
+            kept: &kept,
+            from: 0,
+        },
+        view: View::From(0),
+        to: steps.len(),
+    };
     let mut out = Table::empty();
-    seen(
-        records,
-        steps,
-        &kept,
-        0,
-        View::From(0),
-        steps.len(),
-        16,
-        &mut out,
-    );
+    sight.seen(0, 16, &mut out);
     out
 }
 

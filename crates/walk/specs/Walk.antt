@@ -69,6 +69,11 @@ pub record RightFrom (k : Kept) (ns : List Node) (words : List ℕ) (i : ℕ) : 
   pub few : length ns ≤ 64
   pub right : (x : ℕ) → i ≤ x → Right k ns words x
 
+-- what a walk that begins at record i uses is right: what is kept of it as a repeat, and all that is kept of the later records
+pub record ReadyFrom (k : Kept) (ns : List Node) (words : List ℕ) (i : ℕ) : Type 0 where
+  pub ready : Ready k ns words i
+  pub later : RightFrom k ns words (i + 1)
+
 -- a query of at most 16 levels stands at record i in some role
 abbrev pub Somehow : List Node → ℕ → Type 0
 Somehow ns i = (r : Role) × Stands 16 ns r i

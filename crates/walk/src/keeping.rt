@@ -2,14 +2,19 @@
 
 ghost use Rattle.std.specs.Prelude.{◌≡◌, ℕ, ◌+◌, ◌<◌, ◌≤◌, true, length};
 ghost use Rattle.query.specs.declared.node.Role.{Role};
+ghost use Rattle.query.specs.declared.node.Role.TheVariants.{Shape};
 ghost use Rattle.query.specs.Stands.{next_at};
 ghost use Rattle.steps.specs.Meaning.{steps_of};
+ghost use Rattle.wholes.specs.declared.view.View.TheVariants.{Own};
+ghost use Rattle.wholes.specs.Shows.{Shows};
 ghost use Rattle.walk.specs.declared.kept.Entry.{Entry};
-ghost use Rattle.walk.specs.Walk.{Stands, Somehow, Ready, entry};
+ghost use Rattle.walk.specs.Walk.{Stands, Somehow, Ready, entry, rule};
 ghost use Rattle.walk.specs.Walk.{KeptNext, KeptRepeat, KeptOwn, RightFrom};
 
 use crate::kept::{Entry, Kept};
-use crate::walk::{many_of, seen};
+use crate::many::many_of;
+use crate::sight::Sight;
+use crate::walk::Walk;
 use ends::Ends;
 use query::{Node, Role};
 use steps::Steps;
@@ -73,6 +78,26 @@ fn keep_repeat(kept: &mut Kept, records: &[Node], steps: &Steps, i: usize)
     };
 }
 
+// What the shape at record i fits, each stretch seen from its own start.
+fn found(kept: &Kept, records: &[Node], steps: &Steps, i: usize, out: &mut Table)
+    requires stands { Stands 16 records.now Shape i }
+    requires right { RightFrom kept.now records.now (steps_of steps.now) (i + 1) }
+    requires ready { Ready kept.now records.now (steps_of steps.now) i }
+    ensures { Shows out.new (rule (steps_of steps.now) records.now i) Own (length (steps_of steps.now)) (length (steps_of steps.now)) }
+{
+    let sight = Sight {
+        walk: Walk {
+            records,
+            steps,
+            kept,
+            from: i,
+        },
+        view: View::Own,
+        to: steps.len(),
+    };
+    sight.seen(i, 16, out);
+}
+
 // Keeps what a shape fits, each stretch seen from its own start.
 fn keep_own(kept: &mut Kept, records: &[Node], steps: &Steps, i: usize)
     requires stands { Somehow records.now i }
@@ -84,16 +109,7 @@ fn keep_own(kept: &mut Kept, records: &[Node], steps: &Steps, i: usize)
         return;
     }
     let mut own = Table::empty();
-    seen(
-        records,
-        steps,
-        kept,
-        i,
-        View::Own,
-        steps.len(),
-        16,
-        &mut own,
-    );
+    found(kept, records, steps, i, &mut own);
     kept.entries[i].own = own;
 }
 
