@@ -1,3 +1,4 @@
 pub mod Digits
 pub mod Sets
 pub mod Tallies
+pub mod Listing

@@ -1,5 +1,5 @@
 -- Sets of positions as lists of numbers.
-use Rattle.std.proofs.Common.{◌≡◌, ℕ, zero, suc, ◌+◌, ◌-◌, ◌*◌, ◌/◌, ◌%◌, ◌^◌, ◌<◌, ◌≤◌, Bool, true, false, cond, ◌&&◌, ◌||◌, eqb, ltb, List, [], ◌∷◌, length, get_or, set, sym, refl, ap, ◌∙◌, ap₂, inl, inr, mod-eq_of_lt, arith}
+use Rattle.std.proofs.Common.{◌≡◌, ℕ, zero, suc, ◌+◌, ◌-◌, ◌*◌, ◌/◌, ◌%◌, ◌^◌, ◌<◌, ◌≤◌, Bool, true, false, cond, ◌&&◌, ◌||◌, eqb, ltb, List, [], ◌∷◌, length, get_or, set, Some, sym, refl, ap, ◌∙◌, ap₂, inl, inr, mod-eq_of_lt, one-mul, arith}
 use lib.Bits.{bit_or, bit_and}
 use lib.Count.{ones, count_trailing_zeros}
 use lib.Pow.{pow-lt}
@@ -9,7 +9,7 @@ use Rattle.std.proofs.lemmas.Bool.{cases_eq, cases_lt, cases_order, eq-eqb, lt-l
 use Rattle.std.proofs.lemmas.Bool.Decides.{nat_tests}
 use Rattle.word.specs.Words.{has}
 use Rattle.word.proofs.Bits.{has_none, has_past}
-use Rattle.ends.specs.Member.{member, tally, Next, right_of}
+use Rattle.ends.specs.Member.{member, tally, Finds}
 use Rattle.ends.proofs.Digits.{has_or, has_and, has_power, has_shifted, has_above, lowest_bit, ones_tally}
 use Rattle.ends.proofs.Tallies.{tally_append}
 
@@ -44,14 +44,14 @@ or_swap false false = refl
 
 -- the bit of b in the number at its place
 pub inserted : (xs : List ℕ) (b k : ℕ) → b / 64 < length xs →
-    member (record { bits = set xs (b / 64) (bit_or (get_or xs (b / 64) 0) (2 ^ (b % 64) % 2 ^ 64)) }) k
+    member (record { bits = set xs (b / 64) (bit_or (get_or xs (b / 64) 0) (1 * 2 ^ (b % 64) % 2 ^ 64)) }) k
     ≡ (eqb k b || member (record { bits = xs }) k)
 unfolding member
 inserted xs b k h = elim (cases_eq (k / 64) (b / 64)) [
   | inl e ↦
       let x : ℕ = get_or xs (b / 64) 0 in
-      let y : ℕ = 2 ^ (b % 64) % 2 ^ 64 in
-      let one : y ≡ 2 ^ (b % 64) = (let m : b % 64 < 64 = omega arith in mod-eq_of_lt (pow-lt m)) in
+      let y : ℕ = 1 * 2 ^ (b % 64) % 2 ^ 64 in
+      let one : y ≡ 2 ^ (b % 64) = (let m : b % 64 < 64 = omega arith in ap (λ (x : ℕ). x % 2 ^ 64) (one-mul (2 ^ (b % 64))) ∙ mod-eq_of_lt (pow-lt m)) in
       let same : get_or (set xs (b / 64) (bit_or x y)) (k / 64) 0 ≡ bit_or x (2 ^ (b % 64)) =
       ap (λ (i : ℕ). get_or (set xs (b / 64) (bit_or x y)) i 0) e
       ∙ (get_or-set_same xs (b / 64) (bit_or x y) 0 h ∙ ap (λ (z : ℕ). bit_or x z) one) in
@@ -63,7 +63,7 @@ inserted xs b k h = elim (cases_eq (k / 64) (b / 64)) [
       ∙ ap (λ (t : Bool). t || has x (k % 64)) (same_place e)
       ∙ ap (λ (n : ℕ). eqb k b || has n (k % 64)) (sym at)
   | inr o ↦
-      ap (λ (n : ℕ). has n (k % 64)) (get_or-set_other xs (b / 64) (k / 64) (bit_or (get_or xs (b / 64) 0) (2 ^ (b % 64) % 2 ^ 64)) 0 o)
+      ap (λ (n : ℕ). has n (k % 64)) (get_or-set_other xs (b / 64) (k / 64) (bit_or (get_or xs (b / 64) 0) (1 * 2 ^ (b % 64) % 2 ^ 64)) 0 o)
       ∙ ap (λ (t : Bool). t || has (get_or xs (k / 64) 0) (k % 64)) (sym (ne_eqb k b (λ e. o (ap (λ (n : ℕ). n / 64) e))))
 ]
   where
@@ -91,6 +91,11 @@ pub shared : (zs xs ys : List ℕ) → ((j : ℕ) → get_or zs j 0 ≡ bit_and 
     member (record { bits = zs }) k ≡ (member (record { bits = xs }) k && member (record { bits = ys }) k)
 unfolding member
 shared zs xs ys h k = ap (λ (n : ℕ). has n (k % 64)) (h (k / 64)) ∙ has_and (get_or xs (k / 64) 0) (get_or ys (k / 64) 0) (k % 64)
+
+-- of the number at place w the bits alone that stand right of position b
+abbrev pub right_of : ℕ → ℕ → ℕ → ℕ
+right_of word w b =
+    cond (ltb w (b / 64)) 0 (cond (eqb w (b / 64)) (((word / 2 ^ (b % 64)) / 2 * 2) * 2 ^ (b % 64) % 2 ^ 64) word)
 
 -- one number more is done
 pub one_more : (f : ℕ → ℕ → ℕ) (zs xs : List ℕ) (w v : ℕ) → w < length zs → v ≡ f (get_or zs w 0) w →
@@ -148,13 +153,12 @@ module _ (xs : List ℕ) where
       ap₂ (λ (q r : ℕ). has (get_or xs q 0) r) d m
 
   -- one number more in a count of the positions
-  pub tally_more : (w total more : ℕ) → get_or xs w 0 < 2 ^ 64 → more ≡ ones (get_or xs w 0) →
-      total ≡ tally (64 * w) 0 (member (record { bits = xs })) →
-      total + more ≡ tally (64 * (w + 1)) 0 (member (record { bits = xs }))
-  tally_more w total more f e t =
+  pub tally_more : (w total : ℕ) → get_or xs w 0 < 2 ^ 64 → total ≡ tally (64 * w) 0 (member (record { bits = xs })) →
+      total + ones (get_or xs w 0) ≡ tally (64 * (w + 1)) 0 (member (record { bits = xs }))
+  tally_more w total f t =
       let z : 64 * (w + 1) ≡ 64 * w + 64 = omega arith in
       let y : 64 * w ≡ 0 + 64 * w = omega arith in
-      ap₂ ◌+◌ t (e ∙ ones_tally 64 (64 * w) (get_or xs w 0) (member (record { bits = xs })) f (member_at w)
+      ap₂ ◌+◌ t (ones_tally 64 (64 * w) (get_or xs w 0) (member (record { bits = xs })) f (member_at w)
       ∙ ap (λ (k : ℕ). tally 64 k (member (record { bits = xs }))) y)
       ∙ sym (ap (λ (m : ℕ). tally m 0 (member (record { bits = xs }))) z ∙ tally_append (member (record { bits = xs })) (64 * w) 64 0)
 
@@ -173,7 +177,7 @@ module _ (xs : List ℕ) where
 
   -- the next position stands in the number of b itself
   pub next_here : (b : ℕ) → b < 256 → get_or xs (b / 64) 0 < 2 ^ 64 → 0 < get_or xs (b / 64) 0 / 2 ^ (b % 64) →
-      Next (member (record { bits = xs })) b (b + count_trailing_zeros 64 (get_or xs (b / 64) 0 / 2 ^ (b % 64)))
+      Finds (member (record { bits = xs })) b (Some (b + count_trailing_zeros 64 (get_or xs (b / 64) 0 / 2 ^ (b % 64))))
   next_here b l f p =
       let n : ℕ = get_or xs (b / 64) 0 in
       let small : n / 2 ^ (b % 64) < 2 ^ 64 = omega (arith, shr_le n (b % 64)) in
@@ -183,15 +187,17 @@ module _ (xs : List ℕ) where
       let fits : b % 64 + t < 64 = elim (cases_lt (b % 64 + t) 64) [
         | inl u ↦ u
         | inr g ↦ absurd (false≢true (sym (has_past 64 n (b % 64 + t) f g) ∙ on))
-      ] in
-      record {
-        above = omega arith;
-        below = omega arith;
-        skipped = λ k m u.
-            let e : b + (k - b) ≡ k = omega arith in
-            ap (member (record { bits = xs })) (sym e) ∙ from_shifted b (k - b) (omega arith) ∙ r.2 (k - b) (omega arith);
-        found = λ u. from_shifted b t fits ∙ r.1;
-      }
+      ] in (
+        omega arith,
+        record {
+          above = omega arith;
+          below = omega arith;
+          skipped = λ k m u.
+              let e : b + (k - b) ≡ k = omega arith in
+              ap (member (record { bits = xs })) (sym e) ∙ from_shifted b (k - b) (omega arith) ∙ r.2 (k - b) (omega arith);
+          found = λ u. from_shifted b t fits ∙ r.1;
+        },
+      )
 
   -- the rest of the number of b is 0, so no position from b on stands in it
   pub none_here : (b : ℕ) → get_or xs (b / 64) 0 / 2 ^ (b % 64) ≡ 0 → (k : ℕ) → b ≤ k → k < 64 * (b / 64 + 1) → member (record { bits = xs }) k ≡ false
@@ -211,18 +217,20 @@ module _ (xs : List ℕ) where
   -- the next position stands in the number at place w
   pub next_there : (b w : ℕ) → b ≤ 64 * w → w < 4 → get_or xs w 0 < 2 ^ 64 → 0 < get_or xs w 0 →
       ((k : ℕ) → b ≤ k → k < 64 * w → member (record { bits = xs }) k ≡ false) →
-      Next (member (record { bits = xs })) b (64 * w + count_trailing_zeros 64 (get_or xs w 0))
+      Finds (member (record { bits = xs })) b (Some (64 * w + count_trailing_zeros 64 (get_or xs w 0)))
   next_there b w l four f p h =
       let r = lowest_bit 64 (get_or xs w 0) p f in
-      let t = r.0 in
-      record {
-        above = omega arith;
-        below = omega arith;
-        skipped = λ k m u. elim (cases_lt k (64 * w)) [
-          | inl v ↦ h k m v
-          | inr g ↦
-              (let e : 64 * w + (k - 64 * w) ≡ k = omega arith in
-              ap (member (record { bits = xs })) (sym e) ∙ member_at w (k - 64 * w) (omega arith) ∙ r.2 (k - 64 * w) (omega arith))
-        ];
-        found = λ u. member_at w (count_trailing_zeros 64 (get_or xs w 0)) t ∙ r.1;
-      }
+      let t = r.0 in (
+        omega arith,
+        record {
+          above = omega arith;
+          below = omega arith;
+          skipped = λ k m u. elim (cases_lt k (64 * w)) [
+            | inl v ↦ h k m v
+            | inr g ↦
+                (let e : 64 * w + (k - 64 * w) ≡ k = omega arith in
+                ap (member (record { bits = xs })) (sym e) ∙ member_at w (k - 64 * w) (omega arith) ∙ r.2 (k - 64 * w) (omega arith))
+          ];
+          found = λ u. member_at w (count_trailing_zeros 64 (get_or xs w 0)) t ∙ r.1;
+        },
+      )

@@ -1,5 +1,5 @@
 -- Which positions are in a set, how many, and which comes next. Assumes nothing.
-use Rattle.std.specs.Prelude.{◌≡◌, ℕ, zero, suc, ◌+◌, ◌*◌, ◌/◌, ◌%◌, ◌^◌, ◌<◌, ◌≤◌, Bool, true, false, cond, [], ◌==◌, nat_lt, slice_index}
+use Rattle.std.specs.Prelude.{◌≡◌, ℕ, zero, suc, ◌+◌, ◌/◌, ◌%◌, ◌<◌, ◌≤◌, Bool, true, false, cond, [], slice_index, Option, Some, None}
 use Rattle.word.specs.Words.{has}
 use Rattle.ends.specs.declared.Ends.{Ends}
 
@@ -23,7 +23,7 @@ pub record Next (test : ℕ → Bool) (b r : ℕ) : Type 0 where
   pub skipped : (k : ℕ) → b ≤ k → k < r → test k ≡ false
   pub found : r < 256 → test r ≡ true
 
--- of the number at place w the bits alone that stand right of position b: those above its place, if it stands in this number
-abbrev pub right_of : ℕ → ℕ → ℕ → ℕ
-right_of word w b =
-    cond (nat_lt w (b / 64)) 0 (cond (w == b / 64) (((word / 2 ^ (b % 64)) / 2 * 2) * 2 ^ (b % 64) % 2 ^ 64) word)
+-- the lowest position from b on that passes the test, or none where none does
+abbrev pub Finds : (ℕ → Bool) → ℕ → Option ℕ → Type 0
+Finds test b (Some r) = (r < 256) × Next test b r
+Finds test b None = (k : ℕ) → b ≤ k → k < 256 → test k ≡ false

@@ -1,11 +1,13 @@
 -- The rows of a table.
-use Rattle.std.proofs.Common.{◌≡◌, ℕ, ◌+◌, ◌<◌, ◌≤◌, Bool, true, false, cond, ◌&&◌, ◌||◌, eqb, ltb, ◌⊎◌, List, length, get_or, set, replicate, Decides, sym, refl, ap, ◌∙◌, subst, ap₂, inl, inr, arith}
+use Rattle.std.proofs.Common.{◌≡◌, ℕ, zero, suc, ◌+◌, ◌<◌, ◌≤◌, Bool, true, false, cond, ◌&&◌, ◌||◌, eqb, ltb, ◌⊎◌, ◌↔◌, List, [], ◌∷◌, length, get_or, set, replicate, Option, Some, None, Decides, sym, refl, ap, ◌∙◌, subst, ap₂, inl, inr, arith}
 use Rattle.std.proofs.lemmas.List.{get_or-set_same, get_or-set_other, get_or_past, get_or-replicate}
-use Rattle.std.proofs.lemmas.Bool.{cases_order, cases_eq, cases_lt, eq-eqb, ne_eqb, lt-ltb, le-ltb, cond-true, cond-false, or_cases, or_left, or_right, eqb-true, false≢true}
+use Rattle.std.proofs.lemmas.Bool.{cases_eq, cases_lt, eq-eqb, ne_eqb, lt-ltb, le-ltb, cond-true, cond-false, or_cases, or_left, or_right, eqb-true, false≢true}
 use Rattle.std.proofs.lemmas.Bool.Decides.{nat_tests}
+use Rattle.std.specs.List.{filter, range_with_len}
+use Rattle.std.specs.Option.{is_none}
 use Rattle.word.proofs.Bits.{has_none}
 use Rattle.ends.specs.declared.Ends.{Ends}
-use Rattle.ends.specs.Member.{member, nothing, Next}
+use Rattle.ends.specs.Member.{member, nothing, Finds}
 use Rattle.tables.specs.declared.table.Table.{Table}
 use Rattle.tables.specs.Holds.{within, holds, Held, Joined}
 
@@ -128,42 +130,73 @@ joined_all rows n self later h e inv x y = elim (cases_lt x n) [
   )
 ]
 
--- the stretches of the rows of those starts that lie below c are gathered, and c is the next start
-pub record Gathered (starts : ℕ → Bool) (t : Table) (all : ℕ → Bool) (c : ℕ) : Type 0 where
-  pub bound : c ≤ 256
-  pub start : c < 256 → starts c ≡ true
-  pub ends : (b : ℕ) → Decides (all b) ((x : ℕ) × (x < c) × (starts x ≡ true) × Held t x b)
+-- one of these rows has the end
+abbrev pub Reached : Table → List ℕ → ℕ → Type 0
+Reached t [] b = ⊥
+Reached t (c ∷ cs) b = Held t c b ⊎ Reached t cs b
+
+-- what is gathered, with the rows of the starts that are left, gives the rows of all starts
+abbrev pub Gathered : (ℕ → Bool) → Table → (ℕ → Bool) → List ℕ → Type 0
+Gathered starts t all rest = (b : ℕ) → ((all b ≡ true) ⊎ Reached t rest b) ↔ ((c : ℕ) × (starts c ≡ true) × Held t c b)
 
 module _ (starts : ℕ → Bool) (t : Table) where
-  pub gathered_more : (all more : ℕ → Bool) (c d : ℕ) → c < 256 → ((b : ℕ) → more b ≡ (all b || holds t c b)) → Next starts (c + 1) d →
-      Gathered starts t all c → Gathered starts t more d
-  gathered_more all more c d l m n g = record {
-    bound = n.below;
-    start = n.found;
-    ends = λ b. (
-      λ u. found b (or_cases (all b) (holds t c b) (sym (m b) ∙ u)),
-      λ h. m b ∙ finds b h.0 h.1 h.2 h.3,
-    );
-  }
+  reached_in : (d x b : ℕ) → Reached t (filter starts (range_with_len x d)) b → (c : ℕ) × (starts c ≡ true) × Held t c b
+  reached_in zero x b h = absurd h
+  reached_in (suc d) x b h = here (reached_in d (x + 1) b) (starts x) refl h
     where
-      found : (b : ℕ) → (all b ≡ true) ⊎ Held t c b → (x : ℕ) × (x < d) × (starts x ≡ true) × Held t x b
-      found b (inl h) = let r = (g.ends b).0 h in let a = n.above in let o = r.1 in (r.0, omega arith, r.2, r.3)
-      found b (inr h) = let a = n.above in (c, omega arith, g.start l, h)
+      here : (Reached t (filter starts (range_with_len (x + 1) d)) b → (c : ℕ) × (starts c ≡ true) × Held t c b) → (s : Bool) → starts x ≡ s →
+          Reached t (cond s (x ∷ filter starts (range_with_len (x + 1) d)) (filter starts (range_with_len (x + 1) d))) b →
+          (c : ℕ) × (starts c ≡ true) × Held t c b
+      here r true e (inl u) = (x, e, u)
+      here r true e (inr u) = r u
+      here r false e u = r u
 
-      finds : (b x : ℕ) → x < d → starts x ≡ true → Held t x b → (all b || holds t c b) ≡ true
-      finds b x u s h = elim (cases_order x c) [
-        | inl e ↦ or_right (all b) (holds t c b) (subst (λ (i : ℕ). Held t i b) e h)
-        | inr o ↦ elim o [
-          | inl v ↦ or_left (all b) (holds t c b) ((g.ends b).1 (x, v, s, h))
-          | inr v ↦ absurd (false≢true (sym (n.skipped x (omega arith) u) ∙ s))
-        ]
+  reached_from : (d x c b : ℕ) → x ≤ c → c < x + d → starts c ≡ true → Held t c b → Reached t (filter starts (range_with_len x d)) b
+  reached_from zero x c b l u s h = absurd (omega arith)
+  reached_from (suc d) x c b l u s h = here (λ m. reached_from d (x + 1) c b m (omega arith) s h) (cases_eq c x) (starts x) refl
+    where
+      here : (x + 1 ≤ c → Reached t (filter starts (range_with_len (x + 1) d)) b) → (c ≡ x) ⊎ (c ≡ x → ⊥) → (v : Bool) → starts x ≡ v →
+          Reached t (cond v (x ∷ filter starts (range_with_len (x + 1) d)) (filter starts (range_with_len (x + 1) d))) b
+      here r (inl q) true e = inl (subst (λ (i : ℕ). Held t i b) q h)
+      here r (inl q) false e = absurd (false≢true (sym e ∙ ap starts (sym q) ∙ s))
+      here r (inr n) true e = inr (r (omega arith))
+      here r (inr n) false e = r (omega arith)
+
+  -- nothing is gathered yet
+  pub gathered_none : (all : ℕ → Bool) → ((b : ℕ) → all b ≡ false) → Gathered starts t all (filter starts (range_with_len 0 256))
+  gathered_none all none b = (
+    elim [
+      | inl u ↦ absurd (false≢true (sym (none b) ∙ u))
+      | inr u ↦ reached_in 256 0 b u
+    ],
+    λ h. inr (reached_from 256 0 h.0 b (omega arith) (held_row t h.0 b h.2) h.1 h.2),
+  )
+
+  -- the row of the next start
+  pub gathered_more : (all more : ℕ → Bool) (c : ℕ) (rest : List ℕ) → ((b : ℕ) → more b ≡ (all b || holds t c b)) →
+      Gathered starts t all (c ∷ rest) → Gathered starts t more rest
+  gathered_more all more c rest m g b = (
+    elim [
+      | inl u ↦ elim (or_cases (all b) (holds t c b) (sym (m b) ∙ u)) [
+        | inl h ↦ (g b).0 (inl h)
+        | inr h ↦ (g b).0 (inr (inl h))
       ]
+      | inr u ↦ (g b).0 (inr (inr u))
+    ],
+    λ h. elim ((g b).1 h) [
+      | inl u ↦ inl (m b ∙ or_left (all b) (holds t c b) u)
+      | inr u ↦ elim u [
+        | inl v ↦ inl (m b ∙ or_right (all b) (holds t c b) v)
+        | inr v ↦ inr v
+      ]
+    ],
+  )
 
-  pub gathered_all : (all : ℕ → Bool) (c : ℕ) → 256 ≤ c → Gathered starts t all c →
-      (b : ℕ) → Decides (all b) ((x : ℕ) × (starts x ≡ true) × Held t x b)
-  gathered_all all c l g b = (
-    λ u. (let r = (g.ends b).0 u in (r.0, r.2, r.3)),
-    λ h. (g.ends b).1 (h.0, (let m = held_row t h.0 b h.2 in omega arith), h.1, h.2),
+  -- all are gathered
+  pub gathered_all : (all : ℕ → Bool) → Gathered starts t all [] → (b : ℕ) → Decides (all b) ((c : ℕ) × (starts c ≡ true) × Held t c b)
+  gathered_all all g b = (
+    λ u. (g b).0 (inl u),
+    λ h. elim ((g b).1 h) [ inl u ↦ u | inr u ↦ absurd u ],
   )
 
   -- the same over all rows
@@ -203,3 +236,13 @@ chosen_out P old k n inv x = (
     | inr ne ↦ (inv x).1 ((let o = h.0 in omega arith), h.1)
   ],
 )
+
+-- a row without an end
+pub rests_none : (test : ℕ → Bool) (r : Option ℕ) → Finds test 0 r → is_none r ≡ true → (y : ℕ) → y < 256 → test y ≡ true → ⊥
+rests_none test (Some x) f e y l h = false≢true e
+rests_none test None f e y l h = false≢true (sym (f y (omega arith) l) ∙ h)
+
+-- a row with an end
+pub rests_some : (test : ℕ → Bool) (r : Option ℕ) → Finds test 0 r → is_none r ≡ false → ((y : ℕ) → y < 256 → test y ≡ true → ⊥) → ⊥
+rests_some test (Some x) f e n = n x f.0 (f.1.found f.0)
+rests_some test None f e n = false≢true (sym e)

@@ -93,13 +93,17 @@ module _ (P : Rule) (n : ℕ) (own piece : Table) (shown : Shows own P Own n n) 
       let l = pieces_up P c c b cs h.2 in
       (c, fits_piece a c h.0 (omega arith) h.1, pieces_links c b cs u h.2)
 
-  -- exactly k pieces
-  pub exactly_none : (t : Table) (k : ℕ) → k ≡ 0 → ((a b : ℕ) → holds t a b ≡ false) → Later t P (Exactly k) n
-  exactly_none t k z h = record {
+  -- no pieces: none follows a first
+  pub none_later : (t : Table) (many : Many) → (many ≡ Exactly 0) ⊎ (many ≡ AtMost 0) → ((a b : ℕ) → holds t a b ≡ false) → Later t P many n
+  none_later t many e h = record {
     sound = λ c b u. absurd (false≢true (sym (h c b) ∙ u));
-    full = λ c b cs u m p. absurd (let e = eqb-true (suc (length cs)) k m in omega arith);
+    full = λ c b cs u m p. absurd (elim e [
+      | inl q ↦ (let l = eqb-true (suc (length cs)) 0 (ap (λ (k : Many). allowed k (suc (length cs))) (sym q) ∙ m) in omega arith)
+      | inr q ↦ (let l = leb-true (suc (length cs)) 0 (ap (λ (k : Many). allowed k (suc (length cs))) (sym q) ∙ m) in omega arith)
+    ]);
   }
 
+  -- exactly k pieces
   pub exactly_later : (t : Table) (k less : ℕ) → k ≡ suc less →
       ((a b : ℕ) → Decides (holds t a b) ((a ≤ n) × Links (Held piece) less a b)) → Later t P (Exactly k) n
   exactly_later t k less e h = record {
@@ -283,17 +287,18 @@ module _ (P : Rule) (many : Many) (v : View) (to n : ℕ) (opening first later :
             follows.full c y cs (omega arith) m p.2,
           )
 
--- a row is written, or passed over
+-- a row is written
 pub repeats_put : (lo to : ℕ) (first later out next : Table) (stops reached : Ends) (null : Bool) (row : ℕ → Bool) (a : ℕ) →
-    lo ≤ a → a ≤ to → member reached a ≡ false → ((b : ℕ) → Decides (row b) (Row first later stops null a b)) →
+    lo ≤ a → a ≤ to → ((b : ℕ) → Decides (row b) ((member reached a ≡ false) × Row first later stops null a b)) →
     ((x y : ℕ) → holds next x y ≡ cond (eqb x a) (row y) (holds out x y)) →
     RepeatsBelow lo to first reached later stops null out a → RepeatsBelow lo to first reached later stops null next (a + 1)
-repeats_put lo to first later out next stops reached null row a lw hi f d p inv x y = elim (cases_eq x a) [
+repeats_put lo to first later out next stops reached null row a lw hi d p inv x y = elim (cases_eq x a) [
   | inl e ↦ (
     λ u.
         let r = (d y).0 (sym (cond-true (eqb x a) (row y) _ (eq-eqb x a e)) ∙ sym (p x y) ∙ u) in
-        (omega arith, omega arith, omega arith, ap (member reached) e ∙ f, subst (λ (i : ℕ). Row first later stops null i y) (sym e) r),
-    λ u. p x y ∙ cond-true (eqb x a) (row y) _ (eq-eqb x a e) ∙ (d y).1 (subst (λ (i : ℕ). Row first later stops null i y) e u.4),
+        (omega arith, omega arith, omega arith, ap (member reached) e ∙ r.0, subst (λ (i : ℕ). Row first later stops null i y) (sym e) r.1),
+    λ u. p x y ∙ cond-true (eqb x a) (row y) _ (eq-eqb x a e)
+        ∙ (d y).1 (ap (member reached) (sym e) ∙ u.3, subst (λ (i : ℕ). Row first later stops null i y) e u.4),
   )
   | inr ne ↦ (
     λ u.
@@ -303,13 +308,3 @@ repeats_put lo to first later out next stops reached null row a lw hi f d p inv 
     λ u. (let o = u.0 in p x y ∙ cond-false (eqb x a) (row y) _ (ne_eqb x a ne) ∙ (inv x y).1 (omega arith, u.1, u.2, u.3, u.4)),
   )
 ]
-
-pub repeats_skip : (lo to : ℕ) (first later out : Table) (stops reached : Ends) (null : Bool) (a : ℕ) → member reached a ≡ true →
-    RepeatsBelow lo to first reached later stops null out a → RepeatsBelow lo to first reached later stops null out (a + 1)
-repeats_skip lo to first later out stops reached null a f inv x y = (
-  λ u. (let r = (inv x y).0 u in let o = r.0 in (omega arith, r.1, r.2, r.3, r.4)),
-  λ u. elim (cases_eq x a) [
-    | inl e ↦ absurd (false≢true (sym u.3 ∙ ap (member reached) e ∙ f))
-    | inr ne ↦ (let o = u.0 in (inv x y).1 (omega arith, u.1, u.2, u.3, u.4))
-  ],
-)

@@ -1,115 +1,154 @@
 -- Parts placed one after another, each as early as it can be.
-use Rattle.std.proofs.Common.{◌≡◌, ℕ, suc, ◌+◌, ◌<◌, ◌≤◌, min, Bool, true, ◌&&◌, ◌⊎◌, ◌↔◌, List, [], ◌∷◌, length, get_or, set, replicate, Decides, sym, refl, ap, ◌∙◌, subst, inl, inr, arith}
+use Rattle.std.proofs.Common.{◌≡◌, ℕ, suc, ◌+◌, ◌<◌, ◌≤◌, Bool, true, false, ◌&&◌, ◌||◌, ◌⊎◌, ◌↔◌, List, [], ◌∷◌, length, get_or, set, replicate, Option, Some, None, Decides, sym, refl, ap, ◌∙◌, subst, inl, inr, arith}
 use Rattle.std.proofs.lemmas.List.{length-set, get_or-set_same, get_or-set_other, get_or_past, get_or-replicate}
-use Rattle.std.proofs.lemmas.Bool.{cases_eq, cases_lt, and_parts, and_from, leb-true, le-leb, false≢true}
+use Rattle.std.proofs.lemmas.Bool.{cases_eq, cases_lt, or_cases, or_left, or_right, and_parts, and_from, leb-true, le-leb, false≢true}
+use Rattle.std.specs.Option.{option_and_then}
 use Rattle.shape.specs.Ranges.{some}
 use Rattle.shape.specs.Fits.{Rule, one_after_another}
 use Rattle.shape.proofs.Ranges.{some_decides}
-use Rattle.ends.specs.Member.{Next}
+use Rattle.ends.specs.Member.{Finds}
 use Rattle.tables.specs.declared.table.Table.{Table}
 use Rattle.tables.specs.Holds.{holds, Held}
 use Rattle.tables.proofs.Grid.{held_row}
 use Rattle.wholes.specs.declared.view.View.TheVariants.{From}
+use Rattle.wholes.specs.declared.reach.Reach.{Reach}
+use Rattle.wholes.specs.Places.{place_of}
 use Rattle.wholes.specs.Shows.{Shows}
-use Rattle.wholes.specs.Turns.{Earliest}
+use Rattle.wholes.specs.Turns.{at, Earliest}
 
 -- one entry is written
-entry_put : (xs : List ℕ) (a x z : ℕ) → a < length xs → ((z ≡ a) × (get_or (set xs a x) z 0 ≡ x)) ⊎ ((z ≡ a → ⊥) × (get_or (set xs a x) z 0 ≡ get_or xs z 0))
+entry_put : (xs : List (Option ℕ)) (a : ℕ) (x : Option ℕ) (z : ℕ) → a < length xs →
+    ((z ≡ a) × (get_or (set xs a x) z None ≡ x)) ⊎ ((z ≡ a → ⊥) × (get_or (set xs a x) z None ≡ get_or xs z None))
 entry_put xs a x z h = elim (cases_eq z a) [
-  | inl e ↦ inl (e, ap (λ (i : ℕ). get_or (set xs a x) i 0) e ∙ get_or-set_same xs a x 0 h)
-  | inr n ↦ inr (n, get_or-set_other xs a z x 0 n)
+  | inl e ↦ inl (e, ap (λ (i : ℕ). get_or (set xs a x) i None) e ∙ get_or-set_same xs a x None h)
+  | inr n ↦ inr (n, get_or-set_other xs a z x None n)
 ]
 
--- an entry of a list that is all 256
-last_at : (z : ℕ) → z < 257 → ◌≡◌ {A = ℕ} (get_or {A = ℕ} (replicate {A = ℕ} 257 256) z 0) 256
-last_at z l = get_or-replicate {A = ℕ} 257 z 256 0 l
-
-pub lasts_small : (z : ℕ) → get_or (replicate 257 256) z 0 ≤ 256
-lasts_small z = elim (cases_lt z 257) [
-  | inl l ↦ (let e = last_at z l in omega arith)
-  | inr g ↦ (let e = get_or_past {X = ℕ} (replicate {A = ℕ} 257 256) z 0 g in omega arith)
+-- an entry of a list without a position
+pub nowhere : (z : ℕ) → place_of (get_or (replicate 256 None) z None) ≡ 256
+nowhere z = elim (cases_lt z 256) [
+  | inl l ↦ ap place_of (get_or-replicate 256 z None None l)
+  | inr g ↦ ap place_of (get_or_past (replicate 256 None) z None g)
 ]
+
+-- from past the line nothing is reached
+pub past_line : (r : Reach) (z : ℕ) → 256 ≤ z → at r z ≡ 256
+past_line r z g = let w = r.whole in ap place_of (get_or_past r.ends z None (omega arith))
+
+-- what is reached after two parts
+pub reached_then : (self part : Reach) (from : ℕ) (o : Option ℕ) → o ≡ option_and_then (λ c. get_or part.ends c None) (get_or self.ends from None) →
+    place_of o ≡ at part (at self from)
+reached_then self part from o e = ap place_of e ∙ here (get_or self.ends from None)
+  where
+    here : (x : Option ℕ) → place_of (option_and_then (λ c. get_or part.ends c None) x) ≡ at part (place_of x)
+    here (Some c) = refl
+    here None = sym (past_line part 256 (omega arith))
 
 -- a list of entries of which those below a are written
-pub record Written (f : ℕ → ℕ) (xs : List ℕ) (a : ℕ) : Type 0 where
-  pub long : length xs ≡ 257
-  pub done : (k : ℕ) → k < a → get_or xs k 0 ≡ f k
-  pub small : (k : ℕ) → get_or xs k 0 ≤ 256
+pub record Written (f : ℕ → ℕ) (xs : List (Option ℕ)) (a : ℕ) : Type 0 where
+  pub long : length xs ≡ 256
+  pub done : (k : ℕ) → k < a → place_of (get_or xs k None) ≡ f k
+  pub small : (k : ℕ) → place_of (get_or xs k None) ≤ 256
 
-pub written_more : (f : ℕ → ℕ) (xs : List ℕ) (a x : ℕ) → a < 256 → x ≡ f a → x ≤ 256 → Written f xs a → Written f (set xs a x) (a + 1)
+pub written_none : (f : ℕ → ℕ) → Written f (replicate 256 None) 0
+written_none f = record {
+  long = refl;
+  done = λ k l. absurd (omega arith);
+  small = λ k. (let e = nowhere k in omega arith);
+}
+
+pub written_more : (f : ℕ → ℕ) (xs : List (Option ℕ)) (a : ℕ) (x : Option ℕ) → a < 256 → place_of x ≡ f a → place_of x ≤ 256 →
+    Written f xs a → Written f (set xs a x) (a + 1)
 written_more f xs a x l e u w =
     let q = w.long in
     record {
       long = length-set xs a x ∙ q;
       done = λ k v. elim (entry_put xs a x k (omega arith)) [
-        | inl p ↦ p.1 ∙ e ∙ ap f (sym p.0)
-        | inr p ↦ p.1 ∙ w.done k (let n = p.0 in omega arith)
+        | inl p ↦ ap place_of p.1 ∙ e ∙ ap f (sym p.0)
+        | inr p ↦ ap place_of p.1 ∙ w.done k (let n = p.0 in omega arith)
       ];
       small = λ k. elim (entry_put xs a x k (omega arith)) [
-        | inl p ↦ (let r = p.1 in omega arith)
-        | inr p ↦ (let r = p.1 in let t = w.small k in omega arith)
+        | inl p ↦ (let r = ap place_of p.1 in omega arith)
+        | inr p ↦ (let r = ap place_of p.1 in let t = w.small k in omega arith)
       ];
     }
 
--- a list of which the entries from a on are the first ends
-pub record EndsFrom (t : Table) (xs : List ℕ) (a : ℕ) : Type 0 where
-  pub long : length xs ≡ 257
-  pub done : (z : ℕ) → a ≤ z → z ≤ 256 → Earliest t z (get_or xs z 0)
+-- the ends of the rows from x on are gathered, and the entries from x on are the first ends
+pub record EndsFrom (t : Table) (reached : ℕ → Bool) (xs : List (Option ℕ)) (x : ℕ) : Type 0 where
+  pub long : length xs ≡ 256
+  pub ends : (b : ℕ) → Decides (reached b) ((z : ℕ) × (x ≤ z) × Held t z b)
+  pub done : (z : ℕ) → x ≤ z → z < 256 → Earliest t z (place_of (get_or xs z None))
 
-pub ends_none : (t : Table) → EndsFrom t (replicate 257 256) 256
-ends_none t = record {
+pub ends_none : (t : Table) (reached : ℕ → Bool) → ((b : ℕ) → reached b ≡ false) → EndsFrom t reached (replicate 256 None) 256
+ends_none t reached h = record {
   long = refl;
-  done = λ z l u.
-      let e = last_at z (omega arith) in
+  ends = λ b. (
+    λ u. absurd (false≢true (sym (h b) ∙ u)),
+    λ u. absurd (let l = held_row t u.0 b u.2 in let o = u.1 in omega arith),
+  );
+  done = λ z l u. absurd (omega arith);
+}
+
+-- the lowest of the ends that are gathered
+first_end : (t : Table) (reached : ℕ → Bool) (x : ℕ) (r : Option ℕ) → ((b : ℕ) → Decides (reached b) ((z : ℕ) × (x ≤ z) × Held t z b)) →
+    Finds reached 0 r → Earliest t x (place_of r)
+first_end t reached x (Some b) d f = record {
+  small = let l = f.0 in omega arith;
+  found = λ l. (d b).0 (f.1.found l);
+  least = λ z y m u h. elim (cases_lt y b) [
+    | inl v ↦ absurd (false≢true (sym (f.1.skipped y (omega arith) v) ∙ (d y).1 (z, m, h)))
+    | inr v ↦ v
+  ];
+}
+first_end t reached x None d f = record {
+  small = omega arith;
+  found = λ l. absurd (omega arith);
+  least = λ z y m u h. absurd (false≢true (sym (f y (omega arith) u) ∙ (d y).1 (z, m, h)));
+}
+
+pub ends_more : (t : Table) (reached more : ℕ → Bool) (row : ℕ → Bool) (xs : List (Option ℕ)) (x : ℕ) (r : Option ℕ) → x < 256 →
+    ((b : ℕ) → row b ≡ holds t x b) → ((b : ℕ) → more b ≡ (reached b || row b)) → Finds more 0 r →
+    EndsFrom t reached xs (x + 1) → EndsFrom t more (set xs x r) x
+ends_more t reached more row xs x r l e m f w =
+    let q = w.long in
+    let all : (b : ℕ) → Decides (more b) ((z : ℕ) × (x ≤ z) × Held t z b) = λ b. (
+      λ u. elim (or_cases (reached b) (row b) (sym (m b) ∙ u)) [
+        | inl h ↦ (let g = (w.ends b).0 h in let o = g.1 in (g.0, omega arith, g.2))
+        | inr h ↦ (x, omega arith, sym (e b) ∙ h)
+      ],
+      λ u. m b ∙ elim (cases_eq u.0 x) [
+        | inl c ↦ or_right (reached b) (row b) (e b ∙ subst (λ (i : ℕ). Held t i b) c u.2)
+        | inr c ↦ or_left (reached b) (row b) ((w.ends b).1 (u.0, (let o = u.1 in omega arith), u.2))
+      ],
+    ) in
+    record {
+      long = length-set xs x r ∙ q;
+      ends = all;
+      done = λ z u v. elim (entry_put xs x r z (omega arith)) [
+        | inl c ↦ subst (λ (i : ℕ). Earliest t i (place_of (get_or (set xs x r) z None))) (sym c.0)
+            (subst (λ (o : Option ℕ). Earliest t x (place_of o)) (sym c.1) (first_end t more x r all f))
+        | inr c ↦ subst (λ (o : Option ℕ). Earliest t z (place_of o)) (sym c.1) (w.done z (let n = c.0 in omega arith) v)
+      ];
+    }
+
+-- all entries are first ends
+pub ends_small : (t : Table) (reached : ℕ → Bool) (xs : List (Option ℕ)) → EndsFrom t reached xs 0 → (k : ℕ) → place_of (get_or xs k None) ≤ 256
+ends_small t reached xs w k = elim (cases_lt k 256) [
+  | inl u ↦ (w.done k (omega arith) u).small
+  | inr g ↦ (let q = w.long in let e = ap place_of (get_or_past xs k None (omega arith)) in omega arith)
+]
+
+pub ends_all : (t : Table) (reached : ℕ → Bool) (xs : List (Option ℕ)) → EndsFrom t reached xs 0 → (x : ℕ) → x ≤ 256 → Earliest t x (place_of (get_or xs x None))
+ends_all t reached xs w x l = elim (cases_lt x 256) [
+  | inl u ↦ w.done x (omega arith) u
+  | inr g ↦
+      (let q = w.long in
+      let e = ap place_of (get_or_past xs x None (omega arith)) in
       record {
         small = omega arith;
         found = λ v. absurd (omega arith);
-        least = λ x y m v h. absurd (let r = held_row t x y h in omega arith);
-      };
-}
-
-pub ends_more : (t : Table) (xs : List ℕ) (a k first later x : ℕ) → a ≡ suc k → k < 256 → Next (holds t k) 0 first → later ≡ get_or xs (k + 1) 0 →
-    x ≡ min first later → EndsFrom t xs a → EndsFrom t (set xs k x) k
-ends_more t xs a k first later x e l n s p w =
-    let q = w.long in
-    record {
-      long = length-set xs k x ∙ q;
-      done = λ z u v. elim (entry_put xs k x z (omega arith)) [
-        | inl r ↦ subst (Earliest t z) (sym (r.1 ∙ p)) (here z r.0)
-        | inr r ↦ subst (Earliest t z) (sym r.1) (w.done z (let o = r.0 in omega arith) v)
-      ];
-    }
-  where
-    next : Earliest t (k + 1) later
-    next = subst (Earliest t (k + 1)) (sym s) (w.done (k + 1) (omega arith) (omega arith))
-
-    here : (z : ℕ) → z ≡ k → Earliest t z (min first later)
-    here z d = record {
-      small = let b = n.below in omega arith;
-      found = λ u. elim (cases_lt later first) [
-        | inl v ↦
-            (let m : min first later ≡ later = omega arith in
-            let r = next.found (omega arith) in
-            let o = r.1 in
-            (r.0, omega arith, subst (Held t r.0) (sym m) r.2))
-        | inr v ↦
-            (let m : min first later ≡ first = omega arith in
-            (k, omega arith, subst (Held t k) (sym m) (n.found (omega arith))))
-      ];
-      least = λ x y m u h. elim (cases_eq x k) [
-        | inl c ↦ elim (cases_lt y first) [
-          | inl v ↦ absurd (false≢true (sym (n.skipped y (omega arith) v) ∙ subst (λ (i : ℕ). Held t i y) c h))
-          | inr v ↦ omega arith
-        ]
-        | inr c ↦ (let g = next.least x y (omega arith) u h in omega arith)
-      ];
-    }
-
--- the entries are no larger than 256
-pub ends_small : (t : Table) (xs : List ℕ) (a : ℕ) → a ≤ 0 → EndsFrom t xs a → (k : ℕ) → get_or xs k 0 ≤ 256
-ends_small t xs a l w k = elim (cases_lt k 257) [
-  | inl u ↦ (w.done k (omega arith) (omega arith)).small
-  | inr g ↦ (let q = w.long in let e = get_or_past xs k 0 (omega arith) in omega arith)
+        least = λ z y m v h. absurd (let r = held_row t z y h in omega arith);
+      })
 ]
 
 -- parts that can be placed from y on can be placed from further left

@@ -20,7 +20,7 @@ pub use windows::{counted, range, shifted};
 
 impl View {
     /// The first position at which stretches may begin.
-    pub fn lowest(self) -> usize
+    pub fn lowest(self) -> u8
         ensures { result ≡ lowest self }
     {
         match self {
@@ -36,9 +36,9 @@ impl Many {
         ensures { result ≡ allowed self count }
     {
         match self {
-            Many::Exactly(k) => count == k as usize,
-            Many::AtLeast(k) => k as usize <= count,
-            Many::AtMost(k) => count <= k as usize,
+            Many::Exactly(k) => count == usize::from(k),
+            Many::AtLeast(k) => usize::from(k) <= count,
+            Many::AtMost(k) => count <= usize::from(k),
         }
     }
 }

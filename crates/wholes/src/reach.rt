@@ -1,11 +1,12 @@
 //! How far parts that are placed one after another reach.
 
-ghost use Rattle.std.specs.Prelude.{◌≡◌, ℕ, ◌≤◌, length, slice_index};
+ghost use Rattle.std.specs.Prelude.{◌≡◌, ℕ, ◌≤◌, None, length, slice_index_or};
+ghost use Rattle.wholes.specs.Places.{place_of};
 
-/// For each position the one that the parts placed from there on reach first, or 256 where they cannot be placed.
+/// For each position the one that the parts placed from there on reach first, where they can be placed.
 #[derive(Clone, Copy)]
 pub struct Reach {
-    pub(crate) ends: [usize; 257],
-    ghost whole: { length ends ≡ 257 },
-    ghost small: { (k : ℕ) → slice_index ends k ≤ 256 },
+    pub(crate) ends: [Option<u8>; 256],
+    ghost whole: { length ends ≡ 256 },
+    ghost small: { (k : ℕ) → place_of (slice_index_or ends k None) ≤ 256 },
 }

@@ -9,13 +9,13 @@ use steps::Steps;
 use tables::Table;
 
 /// The steps that carry a symbol.
-pub fn symbol(steps: &Steps, number: u8, view: View, to: usize) -> Table
+pub fn symbol(steps: &Steps, number: u8, view: View, to: u8) -> Table
     requires { to ≤ length (steps_of steps.now) }
     ensures { Shows result (carrying (steps_of steps.now) number) view to (length (steps_of steps.now)) }
 {
     let mut out = Table::empty();
     for a in view.lowest()..to {
-        if steps.carries(a, number) {
+        if steps.carries(usize::from(a), number) {
             out.insert(a, a + 1);
         }
     }

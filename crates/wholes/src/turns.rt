@@ -1,6 +1,6 @@
 //! Parts that are placed one after another, each as early as it can be.
 
-ghost use Rattle.std.specs.Prelude.{◌≡◌, ℕ, ◌+◌, ◌<◌, ◌≤◌, min, length, Decides, slice_index};
+ghost use Rattle.std.specs.Prelude.{◌≡◌, ℕ, ◌+◌, ◌<◌, ◌≤◌, None, Decides, slice_index_or};
 ghost use Rattle.ends.specs.Member.{member};
 ghost use Rattle.wholes.specs.Turns.{at, Earliest};
 
@@ -8,29 +8,14 @@ use crate::reach::Reach;
 use ends::Ends;
 use tables::Table;
 
-// No position reaches any.
-fn nowhere() -> [usize; 257]
-    ensures long { length result ≡ 257 }
-    ensures small { (k : ℕ) → slice_index result k ≤ 256 }
-{
-    [256; 257]
-}
-
-// The earlier of two positions.
-fn earlier(a: usize, b: usize) -> usize
-    ensures { result ≡ min a b }
-{
-    a.min(b)
-}
-
 impl Reach {
     /// Nothing is placed yet: each position reaches itself.
     pub fn start() -> Reach
         ensures { (a : ℕ) → a < 256 → at result a ≡ a }
     {
-        let mut ends = nowhere();
-        for a in 0..256 {
-            ends[a] = a;
+        let mut ends = [None; 256];
+        for (a, end) in ends.iter_mut().enumerate() {
+            *end = Some(a as u8);
         }
         Reach { ends }
     }
@@ -39,9 +24,11 @@ impl Reach {
     pub fn earliest(table: &Table) -> Reach
         ensures { (x : ℕ) → x ≤ 256 → Earliest table.now x (at result x) }
     {
-        let mut ends = [256; 257];
-        for x in (0..256).rev() {
-            ends[x] = earlier(table.next_in(x, 0), ends[x + 1]);
+        let mut reached = Ends::empty();
+        let mut ends = [None; 256];
+        for x in (0..=255).rev() {
+            reached.union_with(&table.row(x));
+            ends[usize::from(x)] = reached.next_from(0);
         }
         Reach { ends }
     }
@@ -50,21 +37,29 @@ impl Reach {
     pub fn advance(&self, part: &Reach) -> Reach
         ensures { (a : ℕ) → a < 256 → at result a ≡ at part.now (at self.now a) }
     {
-        let mut ends = nowhere();
-        for from in 0..256 {
-            ends[from] = part.ends[self.ends[from]];
+        let mut ends = [None; 256];
+        for (from, end) in ends.iter_mut().enumerate() {
+            *end = self.ends[from].and_then(|c| part.reached_from(c));
         }
         Reach { ends }
     }
 
+    // What is reached from a position.
+    fn reached_from(&self, a: u8) -> Option<u8>
+        ensures { result ≡ slice_index_or self.now.ends a None }
+    {
+        self.ends[usize::from(a)]
+    }
+
     /// The positions from which all is placed within so many steps.
-    pub fn within(&self, s: usize, len: usize, to: usize) -> Ends
-        requires { (s + len ≤ to) × (to < 256) }
+    pub fn within(&self, s: u8, len: u8, to: u8) -> Ends
+        requires { s + len ≤ to }
         ensures { (a : ℕ) → Decides (member result a) ((s ≤ a) × (a + len ≤ to) × (at self.now a ≤ a + len)) }
     {
         let mut out = Ends::empty();
-        for a in s..to - len + 1 {
-            if self.ends[a] <= a + len {
+        for a in s..=to - len {
+            let last = a + len;
+            if self.reached_from(a).is_some_and(|end| end <= last) {
                 out.insert(a);
             }
         }

@@ -11,26 +11,25 @@ use ends::Ends;
 use tables::Table;
 
 /// The positions from `low` up to `high`.
-pub fn range(low: usize, high: usize) -> Ends
-    requires { high < 256 }
+pub fn range(low: u8, high: u8) -> Ends
     ensures { (k : ℕ) → Decides (member result k) ((low ≤ k) × (k ≤ high)) }
 {
     let mut out = Ends::empty();
-    for k in low..high + 1 {
+    for k in low..=high {
         out.insert(k);
     }
     out
 }
 
 /// The positions at which windows begin that have so many stretches of the table inside.
-pub fn counted(table: &Table, many: Many, s: usize, len: usize, to: usize) -> Ends
-    requires { (s + len ≤ to) × (to < 256) }
+pub fn counted(table: &Table, many: Many, s: u8, len: u8, to: u8) -> Ends
+    requires { s + len ≤ to }
     ensures { (P : Rule) (n : ℕ) → Shows table.now P (From s) to n → Starts result (counting P many) (From s) len to }
 {
     let rising = table.rising();
     let mut within = range(s, s + len);
     let mut out = Ends::empty();
-    for a in s..to - len + 1 {
+    for a in s..=to - len {
         within.insert(a + len);
         if many.allows(rising.inside(a, a + len, &within)) {
             out.insert(a);
@@ -40,13 +39,12 @@ pub fn counted(table: &Table, many: Many, s: usize, len: usize, to: usize) -> En
 }
 
 /// The windows of a length that begin at these positions.
-pub fn shifted(starts: &Ends, len: usize, to: usize) -> Table
-    requires small { to < 256 }
-    requires within { (a : ℕ) → member starts.now a ≡ true → a + len ≤ to }
+pub fn shifted(starts: &Ends, len: u8, to: u8) -> Table
+    requires { (a : ℕ) → member starts.now a ≡ true → a + len ≤ to }
     ensures { (Q : Rule) (v : View) (n : ℕ) → to ≤ n → Starts starts.now Q v len to → Shows result (windowed Q len) v to n }
 {
     let mut out = Table::empty();
-    for a in 0..to + 1 {
+    for a in 0..=to {
         if starts.contains(a) {
             out.insert(a, a + len);
         }

@@ -4,4 +4,4 @@ use Rattle.ends.proofs.Ends.contains.Goals as goal
 
 pub returns : goal.returns
 unfolding member has
-returns c = c.has_bit.ensures
+returns c = rw c.from.ensures

@@ -5,6 +5,6 @@ use Rattle.ends.proofs.Ends.keep.Goals as goal
 
 pub returns : goal.returns
 returns c =
-    shared c.loop-w.self.bits c.args.self.now.bits c.args.other.now.bits
-    (each_both bit_and c.loop-w.self.bits c.args.self.now.bits c.args.other.now.bits c.loop-w.w
+    shared c.loop-w.word-items c.args.self.now.bits c.args.other.now.bits
+    (each_both bit_and c.loop-w.word-items c.args.self.now.bits c.args.other.now.bits c.loop-w.w
     (search rules) (search rules) refl c.loop-w.invariant)

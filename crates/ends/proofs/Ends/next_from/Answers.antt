@@ -2,6 +2,11 @@ use Rattle.std.proofs.Common.{rules}
 use Rattle.ends.proofs.Sets.{next_here, none_here, none_more, next_there}
 use Rattle.ends.proofs.Ends.next_from.Goals as goal
 
+pub overflow_cast-result-then-rest-ne0 : goal.overflow_cast-result-then-rest-ne0
+overflow_cast-result-then-rest-ne0 c =
+    let n = next_here c.args.self.now.bits c.args.b (search rules) (search rules) (search rules) in
+    let l = n.0 in search rules
+
 pub returns-then-rest-ne0 : goal.returns-then-rest-ne0
 returns-then-rest-ne0 c = next_here c.args.self.now.bits c.args.b (search rules) (search rules) (search rules)
 

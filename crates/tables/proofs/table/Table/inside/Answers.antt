@@ -1,4 +1,4 @@
-use Rattle.std.proofs.Common.{◌≡◌, ℕ, ◌-◌, ◌≤◌, ◌&&◌, length, ap, ◌∙◌, arith, rules}
+use Rattle.std.proofs.Common.{◌≡◌, ℕ, ◌-◌, ◌≤◌, Bool, ◌&&◌, length, ap, ◌∙◌, arith, rules}
 use Rattle.ends.specs.Member.{member, tally}
 use Rattle.ends.proofs.Tallies.{tally_le, tally_same}
 use Rattle.shape.specs.Ranges.{rows_from}
@@ -27,7 +27,7 @@ unfolding within
 loop-x-preserved c = (
   inside_more (holds c.args.self.now) (member c.args.within.now) c.args.a c.args.b c.loop-x.x c.loop-x.total
       c.len-total.result (search rules) (search rules) (search rules) (c.requires.rising c.loop-x.x) c.requires.ends
-      (c.len-total.ensures ∙ tally_same (member c.keep.new.self) (λ y. holds c.args.self.now c.loop-x.x y && member c.args.within.now y) 256 0 (λ k l u. c.keep.ensures k))
+      (c.len-total.ensures ∙ tally_same (member c.keep.new.self) (λ y. holds c.args.self.now c.loop-x.x y && member c.args.within.now y) 256 0 (λ k l u. c.keep.ensures k ∙ ap (λ (t : Bool). t && member c.args.within.now k) (c.row-row.ensures k)))
       c.loop-x.invariant.0,
   (let t = few c.len-total.result (member c.keep.new.self) c.len-total.ensures in
       let i = c.loop-x.invariant.1 in

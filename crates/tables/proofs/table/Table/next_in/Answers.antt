@@ -3,4 +3,4 @@ use Rattle.tables.proofs.table.Table.next_in.Goals as goal
 
 pub returns : goal.returns
 unfolding within
-returns c = c.next_from.ensures
+returns c = rw c.from.ensures at c.next_from.ensures

@@ -4,14 +4,14 @@ use Rattle.tables.specs.Holds.{within}
 use Rattle.tables.proofs.Grid.{rows_gathered, held_row}
 use Rattle.tables.proofs.table.Table.reached.Goals as goal
 
-pub loop-from-preserved : goal.loop-from-preserved
+pub loop-row-preserved : goal.loop-row-preserved
 unfolding within
-loop-from-preserved c =
-    rows_gathered (member c.loop-from.all) c.args.self.now (member c.loop-from.all) (member c.union_with.new.self) c.loop-from.from
-    c.union_with.ensures c.loop-from.invariant
+loop-row-preserved c =
+    rows_gathered (member c.loop-row.all) c.args.self.now (member c.loop-row.all) (member c.union_with.new.self) c.loop-row.row-index
+    c.union_with.ensures c.loop-row.invariant
 
 pub returns : goal.returns
 returns c = λ b. (
-  λ u. (let r = (c.loop-from.invariant b).0 u in (r.0, r.2)),
-  λ h. (c.loop-from.invariant b).1 (h.0, (let l = held_row c.args.self.now h.0 b h.1 in search rules), h.1),
+  λ u. (let r = (c.loop-row.invariant b).0 u in (r.0, r.2)),
+  λ h. (c.loop-row.invariant b).1 (h.0, (let l = held_row c.args.self.now h.0 b h.1 in search rules), h.1),
 )

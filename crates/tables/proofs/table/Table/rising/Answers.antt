@@ -8,7 +8,7 @@ pub loop-start-preserved : goal.loop-start-preserved
 unfolding within
 loop-start-preserved c = (
   search rules,
-  rows_more c.loop-start.rows c.loop-start.start c.keep_right.new.self
+  rows_more c.loop-start.row-items c.loop-start.start c.keep_right.new.self
       (λ x y. (ltb x y && ltb y 256) && holds c.args.self.now x y) (λ x y. holds c.args.self.now x y)
       (search rules)
       (λ y old. c.keep_right.ensures y ∙ ap (λ (u : Bool). (ltb c.loop-start.start y && ltb y 256) && u) old)
@@ -17,7 +17,7 @@ loop-start-preserved c = (
 
 pub returns : goal.returns
 returns c = λ x y.
-    let e = rows_all c.loop-start.rows c.loop-start.start (λ x y. (ltb x y && ltb y 256) && holds c.args.self.now x y)
+    let e = rows_all c.loop-start.row-items c.loop-start.start (λ x y. (ltb x y && ltb y 256) && holds c.args.self.now x y)
     (λ x y. holds c.args.self.now x y) (search rules)
     (λ x y g. ap (λ (u : Bool). (ltb x y && ltb y 256) && u) (past c.args.self.now.rows x y (search rules)) ∙ and_false (ltb x y && ltb y 256))
     c.loop-start.invariant.1 x y in (

@@ -4,4 +4,4 @@ use Rattle.tables.proofs.table.Table.row.Goals as goal
 
 pub returns : goal.returns
 unfolding within
-returns c = λ k. refl
+returns c = rw c.from.ensures (λ k. refl)

@@ -5,4 +5,4 @@ use Rattle.tables.proofs.table.Table.then.Given as goal
 -- the rows below a are made
 abbrev pub invariant-loop-a : goal.invariant-loop-a
 invariant-loop-a l =
-    (length l.rows ≡ 256) × ((x y : ℕ) → x < l.a → Decides (within l.rows x y) (Joined (Held l.self) (Held l.later) x y))
+    (length l.row-items ≡ 256) × ((x y : ℕ) → x < l.a → Decides (within l.row-items x y) (Joined (Held l.self) (Held l.later) x y))
