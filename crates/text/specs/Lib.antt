@@ -4,3 +4,4 @@ pub mod Faults
 pub mod Binding
 pub mod Bound
 pub mod Written
+pub mod Held

@@ -21,3 +21,12 @@ pub enum WriteFault {
     /// The records are no query that was bound by such an alphabet.
     Records,
 }
+
+/// Why a sheet does not hold the records of a bound shape.
+#[derive(Clone, Copy, PartialEq, Eq, Debug)]
+pub enum SheetFault {
+    /// The sheet has under 64 records.
+    Short,
+    /// The records are no query that was bound by an alphabet of so many symbols.
+    Unbound,
+}

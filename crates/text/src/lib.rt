@@ -10,7 +10,7 @@ mod sheet;
 mod writing;
 
 pub use binding::{Unbound, bind};
-pub use fault::{BindFault, WriteFault};
+pub use fault::{BindFault, SheetFault, WriteFault};
 pub use parser::ReadFault;
 pub use reading::read;
 pub use shape::{BoundShape, ReadShape};
