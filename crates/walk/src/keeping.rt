@@ -69,8 +69,8 @@ fn keep_repeat(kept: &mut Kept, records: &[Node], steps: &Steps, i: usize)
         return;
     }
     let own = kept.entries[i + 1].own;
-    let later = wholes::later(&own, many_of(node), steps.len());
-    let stops = wholes::stops(&own, steps.len());
+    let later = wholes::later(&own, many_of(node), steps.len() as u8);
+    let stops = wholes::stops(&own, steps.len() as u8);
     kept.entries[i] = Entry {
         later,
         stops,
@@ -93,7 +93,7 @@ fn found(kept: &Kept, records: &[Node], steps: &Steps, i: usize, out: &mut Table
             from: i,
         },
         view: View::Own,
-        to: steps.len(),
+        to: steps.len() as u8,
     };
     sight.seen(i, 16, out);
 }

@@ -40,7 +40,7 @@ impl<'a> Sight<'a> {
             Kind::Symbol => *out = wholes::symbol(self.walk.steps, node.number, self.view, self.to),
             Kind::Any => self.any(i + 1, node.parts, levels - 1, out),
             Kind::Concat => self.concat(i + 1, node.parts, levels - 1, out),
-            Kind::In => self.window(i + 1, node.number as usize, levels - 1, out),
+            Kind::In => self.window(i + 1, node.number, levels - 1, out),
             _ => self.repeat(i, levels - 1, out),
         }
     }
@@ -92,9 +92,8 @@ impl<'a> Sight<'a> {
 
     // The windows of a length of which the condition at record i holds.
     #[cycle(walk)]
-    fn window(&self, i: usize, len: usize, levels: u8, out: &mut Table)
-        requires stands { Part self.now.walk levels Window i }
-        requires short { len ≤ 255 }
+    fn window(&self, i: usize, len: u8, levels: u8, out: &mut Table)
+        requires { Part self.now.walk levels Window i }
         ensures { Seen self.now out.new (windowed (fitting self.now.walk i) len) }
     {
         *out = wholes::shifted(&self.starts(i, len, levels), len, self.to);
@@ -102,9 +101,8 @@ impl<'a> Sight<'a> {
 
     // The starts of the windows of a length of which the condition at record i holds.
     #[cycle(walk)]
-    fn starts(&self, i: usize, len: usize, levels: u8) -> Ends
-        requires stands { Part self.now.walk levels Window i }
-        requires short { len ≤ 255 }
+    fn starts(&self, i: usize, len: u8, levels: u8) -> Ends
+        requires { Part self.now.walk levels Window i }
         ensures { Starts result (fitting self.now.walk i) self.now.view len self.now.to }
     {
         match self.view {
@@ -115,13 +113,12 @@ impl<'a> Sight<'a> {
 
     // These starts seen from s.
     #[cycle(walk)]
-    fn starts_from(&self, i: usize, s: usize, len: usize, levels: u8) -> Ends
+    fn starts_from(&self, i: usize, s: u8, len: u8, levels: u8) -> Ends
         requires stands { Part self.now.walk levels Window i }
-        requires short { len ≤ 255 }
         requires low { s ≤ self.now.to }
         ensures { Starts result (fitting self.now.walk i) (From s) len self.now.to }
     {
-        if s + len > self.to {
+        if len > self.to - s {
             return Ends::empty();
         }
         let windows = Windows {
@@ -135,13 +132,15 @@ impl<'a> Sight<'a> {
 
     // These starts, each window seen from its own start.
     #[cycle(walk)]
-    fn own_starts(&self, i: usize, len: usize, levels: u8) -> Ends
-        requires stands { Part self.now.walk levels Window i }
-        requires short { len ≤ 255 }
+    fn own_starts(&self, i: usize, len: u8, levels: u8) -> Ends
+        requires { Part self.now.walk levels Window i }
         ensures { Starts result (fitting self.now.walk i) Own len self.now.to }
     {
         let mut out = Ends::empty();
-        for a in 0..(self.to + 1).saturating_sub(len) {
+        if len > self.to {
+            return out;
+        }
+        for a in 0..=self.to - len {
             let windows = Windows {
                 walk: self.walk,
                 s: a,

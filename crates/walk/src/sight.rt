@@ -12,7 +12,7 @@ use wholes::View;
 pub struct Sight<'a> {
     pub walk: Walk<'a>,
     pub view: View,
-    pub to: usize,
+    pub to: u8,
     pub ghost low: { lowest view ≤ to },
     pub ghost high: { to ≤ length (steps_of walk.steps.now) },
 }
@@ -21,9 +21,9 @@ pub struct Sight<'a> {
 #[derive(Clone, Copy)]
 pub(crate) struct Windows<'a> {
     pub(crate) walk: Walk<'a>,
-    pub(crate) s: usize,
-    pub(crate) len: usize,
-    pub(crate) to: usize,
+    pub(crate) s: u8,
+    pub(crate) len: u8,
+    pub(crate) to: u8,
     ghost fits: { s + len ≤ to },
     ghost high: { to ≤ length (steps_of walk.steps.now) },
 }

@@ -43,7 +43,7 @@ later-later-requires c =
     let shown = ((c.requires.right.right (c.args.i + 1) (omega arith)).own up _) in
     let e = c.len.ensures.length in
     let s = c.len.ensures.few in
-    record { small = omega arith; within = λ x y h. (let u = (shown.sound x y h).high in omega arith) }
+    λ x y h. (let u = (shown.sound x y h).high in omega arith)
 
 pub returns : goal.returns
 returns c =

@@ -75,18 +75,6 @@ Sight::concat-returns t c =
     (sequel_start c.args.self.now.view c.args.self.now.to (length (line c.args.self.now.walk)) c.args.self.now.high (fitting c.args.self.now.walk c.args.first) left c.part.new.out c.part.ensures) in
     sequel_all c.args.self.now.view c.args.self.now.to (length (line c.args.self.now.walk)) c.args.self.now.high (fittings c.args.self.now.walk c.args.parts c.args.first) c.loop-k.out (subst (λ (R : List Rule). Sequel (fittings c.args.self.now.walk c.args.parts c.args.first) R c.args.self.now.view c.args.self.now.to (length (line c.args.self.now.walk)) c.loop-k.out) (rules_none (line c.args.self.now.walk) c.args.self.now.walk.records.now (c.args.parts - c.loop-k.k) c.loop-k.next (omega arith)) (c.loop-k.invariant.1 c.args.self.now.view began))
 
-pub Sight::own_starts-overflow_add-self : goal.Sight::own_starts-overflow_add-self
-Sight::own_starts-overflow_add-self t c =
-    let n = steps_few c.args.self.now.walk.steps.now in let h = c.args.self.now.high in search rules
-
-pub Sight::own_starts-contains-requires : goal.Sight::own_starts-contains-requires
-Sight::own_starts-contains-requires t c =
-    let n = steps_few c.args.self.now.walk.steps.now in let h = c.args.self.now.high in search rules
-
-pub Sight::own_starts-insert-requires : goal.Sight::own_starts-insert-requires
-Sight::own_starts-insert-requires t c =
-    let n = steps_few c.args.self.now.walk.steps.now in let h = c.args.self.now.high in search rules
-
 pub Sight::part-own-requires : goal.Sight::part-own-requires
 Sight::part-own-requires t c =
     any_deeper c.args.self.now.walk c.args.levels Shape c.args.i c.requires
@@ -106,10 +94,6 @@ Sight::repeat-listed t c =
 pub Sight::repeat-bounds-self-i-2 : goal.Sight::repeat-bounds-self-i-2
 Sight::repeat-bounds-self-i-2 t c =
     let o = opened c.args.levels c.args.self.now.walk.records.now Shape (c.args.i + 1) c.requires.stands.deep c.requires.stands.stands in let f = few c.args.self.now.walk in search rules
-
-pub Sight::repeat-repeat-requires : goal.Sight::repeat-repeat-requires
-Sight::repeat-repeat-requires t c =
-    let n = steps_few c.args.self.now.walk.steps.now in let h = c.args.self.now.high in search rules
 
 pub Sight::repeat-returns : goal.Sight::repeat-returns
 Sight::repeat-returns t c =
@@ -194,7 +178,7 @@ Sight::seen-window-requires t c =
     let f = few c.args.self.now.walk in
     let d = o.deep in
     let l = c.requires.reached in
-    (omega arith, (record { deep = omega arith; reached = omega arith; stands = part_of_in (line c.args.self.now.walk) c.args.levels c.args.self.now.walk.records.now Shape c.args.i o c.requires.deep c.in-In.is }, search rules))
+    (omega arith, record { deep = omega arith; reached = omega arith; stands = part_of_in (line c.args.self.now.walk) c.args.levels c.args.self.now.walk.records.now Shape c.args.i o c.requires.deep c.in-In.is })
 
 pub Sight::seen-repeat-requires : goal.Sight::seen-repeat-requires
 Sight::seen-repeat-requires t c =
@@ -230,14 +214,6 @@ Sight::seen-returns-in_default t c =
     let o = opened c.args.levels c.args.self.now.walk.records.now Shape c.args.i c.requires.deep c.requires.stands in
     let e = repeat_kind (query_at c.args.self.now.walk.records.now c.args.i).kind o.kind_right c.in_default.not-Symbol c.in_default.not-Any c.in_default.not-Concat c.in_default.not-In in
     subst (Seen c.args.self.now c.repeat.new.out) (sym (as_repeat (line c.args.self.now.walk) c.args.levels c.args.self.now.walk.records.now c.args.i c.requires.deep o e).1) c.repeat.ensures
-
-pub Sight::starts_from-overflow_add-s : goal.Sight::starts_from-overflow_add-s
-Sight::starts_from-overflow_add-s t c =
-    let n = steps_few c.args.self.now.walk.steps.now in let h = c.args.self.now.high in let s = c.requires.low in search rules
-
-pub Sight::window-shifted-requires-clause-small : goal.Sight::window-shifted-requires-clause-small
-Sight::window-shifted-requires-clause-small t c =
-    let n = steps_few c.args.self.now.walk.steps.now in let h = c.args.self.now.high in search rules
 
 pub Windows::all-starts-requires : goal.Windows::all-starts-requires
 Windows::all-starts-requires t c =
@@ -281,14 +257,6 @@ pub Windows::either-returns : goal.Windows::either-returns
 Windows::either-returns t c =
     any_start_all (fittings c.args.self.now.walk c.args.parts c.args.first) c.args.self.now.s c.args.self.now.len c.args.self.now.to (member c.loop-k.out) (subst (λ (R : List Rule). AnyStart (fittings c.args.self.now.walk c.args.parts c.args.first) c.args.self.now.s c.args.self.now.len c.args.self.now.to R (member c.loop-k.out)) (rules_none (line c.args.self.now.walk) c.args.self.now.walk.records.now (c.args.parts - c.loop-k.k) c.loop-k.next (omega arith)) c.loop-k.invariant.1)
 
-pub Windows::all-range-out-requires : goal.Windows::all-range-out-requires
-Windows::all-range-out-requires t c =
-    let n = steps_few c.args.self.now.walk.steps.now in let h = c.args.self.now.high in search rules
-
-pub Windows::counted-counted-requires : goal.Windows::counted-counted-requires
-Windows::counted-counted-requires t c =
-    let n = steps_few c.args.self.now.walk.steps.now in let h = c.args.self.now.high in let f = c.args.self.now.fits in search rules
-
 pub Windows::counted-returns : goal.Windows::counted-returns
 Windows::counted-returns t c =
     c.counted.ensures (fitting c.args.self.now.walk c.args.i) (length (line c.args.self.now.walk)) c.seen.ensures
@@ -319,10 +287,6 @@ Windows::in_order-loop-k-preserved t c =
           c.args.self.now.high (omega arith) c.seen.ensures c.earliest.ensures c.advance-reach.ensures c.advance-reach.result.small
           (subst (λ (R : List Rule). Reaches (fittings c.args.self.now.walk c.args.parts c.args.first) R c.args.self.now.s c.args.self.now.to (at c.loop-k.reach)) p.rules_are c.loop-k.invariant.1),
     )
-
-pub Windows::in_order-within-requires : goal.Windows::in_order-within-requires
-Windows::in_order-within-requires t c =
-    let n = steps_few c.args.self.now.walk.steps.now in let h = c.args.self.now.high in let f = c.args.self.now.fits in search rules
 
 pub Windows::in_order-returns : goal.Windows::in_order-returns
 Windows::in_order-returns t c =
