@@ -11,15 +11,17 @@ ghost use Rattle.matcher.specs.Answers.{list_number, list_returned, ListsSheet, 
 use crate::faults::{FitFault, ListFault};
 use crate::survey::{fits_records, list_records};
 use query::{Node, Stage, is_query};
+use refusal::Refusal;
 use shape::Stretch;
 use steps::Steps;
 use text::BoundShape;
 
-impl FitFault {
-    /// The refusal's number.
-    pub fn number(self) -> u8
-        ensures { result ≡ fit_number self }
-    {
+impl Refusal for FitFault {
+    ghost number = { fit_number };
+
+    ghost returned = { fit_returned };
+
+    fn number(&self) -> u8 {
         match self {
             FitFault::Sheet => 6,
             FitFault::Records => 14,
@@ -27,11 +29,8 @@ impl FitFault {
         }
     }
 
-    /// What is returned with it.
-    pub fn returned(self) -> usize
-        ensures { result ≡ fit_returned self }
-    {
-        match self {
+    fn returned(&self) -> usize {
+        match *self {
             FitFault::Sheet => 64,
             FitFault::Records => 0,
             FitFault::Stretch(n) => n,
@@ -39,11 +38,12 @@ impl FitFault {
     }
 }
 
-impl ListFault {
-    /// The refusal's number.
-    pub fn number(self) -> u8
-        ensures { result ≡ list_number self }
-    {
+impl Refusal for ListFault {
+    ghost number = { list_number };
+
+    ghost returned = { list_returned };
+
+    fn number(&self) -> u8 {
         match self {
             ListFault::Sheet => 6,
             ListFault::Records => 14,
@@ -51,11 +51,8 @@ impl ListFault {
         }
     }
 
-    /// What is returned with it.
-    pub fn returned(self) -> usize
-        ensures { result ≡ list_returned self }
-    {
-        match self {
+    fn returned(&self) -> usize {
+        match *self {
             ListFault::Sheet => 64,
             ListFault::Records => 0,
             ListFault::Buffer(m) => m,
@@ -93,7 +90,7 @@ pub fn fit(
     if a > b || b > n {
         return Err(FitFault::Stretch(n));
     }
-    Ok(fits_records(&sheet[0..count], steps, a, b))
+    Ok(fits_records(&sheet[0..count], steps, a as u8, b as u8))
 }
 
 /// Lists the stretches of the line that the bound query in the first records of the sheet fits, seen from 0, but for null ones: writes them

@@ -6,6 +6,7 @@ ghost use Rattle.shape.specs.Fits.{fits};
 ghost use Rattle.shape.specs.Listing.{listing};
 ghost use Rattle.shape.specs.Ranges.{row_from, inside};
 ghost use Rattle.steps.specs.Meaning.{steps_of};
+ghost use Rattle.ends.specs.Member.{Next};
 ghost use Rattle.tables.specs.Holds.{holds, Held};
 ghost use Rattle.wholes.specs.declared.view.View.TheVariants.{From};
 ghost use Rattle.wholes.specs.Shows.{Shows};
@@ -37,7 +38,7 @@ fn survey(records: &[Node], steps: &Steps) -> Table
             from: 0,
         },
         view: View::From(0),
-        to: steps.len(),
+        to: steps.len() as u8,
     };
     let mut out = Table::empty();
     sight.seen(0, 16, &mut out);
@@ -45,13 +46,21 @@ fn survey(records: &[Node], steps: &Steps) -> Table
 }
 
 // Whether the query in the records fits the stretch.
-pub(crate) fn fits_records(records: &[Node], steps: &Steps, a: usize, b: usize) -> bool
+pub(crate) fn fits_records(records: &[Node], steps: &Steps, a: u8, b: u8) -> bool
     requires query { IsQuery records.now }
     requires up { a ≤ b }
     requires on_line { b ≤ length (steps_of steps.now) }
     ensures { result ≡ fits (steps_of steps.now) (query_in records.now) 0 a b }
 {
     survey(records, steps).contains(a, b)
+}
+
+// The first end from b on of a stretch that begins at a, or 256 where there is none.
+fn end_from(table: &Table, a: usize, b: usize) -> usize
+    requires { (a < 256) × (b ≤ 256) }
+    ensures { Next (holds table.now a) b result }
+{
+    table.next_in(a as u8, b).map_or(256, usize::from)
 }
 
 // Writes the stretches of the table that begin at a and end on the line.
@@ -63,14 +72,14 @@ fn write_row(table: &Table, a: usize, n: usize, out: &mut [Stretch], place: usiz
     ensures next { result ≡ place + length (row_from (n - a) a (suc a) (holds table.now)) }
 {
     let mut next = place;
-    let mut b = table.next_in(a, a + 1);
+    let mut b = end_from(table, a, a + 1);
     while b <= n {
         out[next] = Stretch {
             start: a as u8,
             end: b as u8,
         };
         next += 1;
-        b = table.next_in(a, b + 1);
+        b = end_from(table, a, b + 1);
     }
     next
 }
@@ -102,7 +111,7 @@ fn count_all(table: &Table, n: usize) -> usize
     requires rising { (x y : ℕ) → Held table.now x y → x < y }
     ensures { result ≡ length (inside (holds table.now) 0 n) }
 {
-    table.inside(0, n, &wholes::range(0, n))
+    table.inside(0, n as u8, &wholes::range(0, n as u8))
 }
 
 // Lists the stretches that the query in the records fits.

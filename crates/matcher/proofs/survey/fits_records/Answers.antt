@@ -7,9 +7,6 @@ use Rattle.steps.proofs.Length.{steps_few}
 use Rattle.tables.specs.Holds.{holds}
 use Rattle.matcher.proofs.survey.fits_records.Goals as goal
 
-pub contains-requires : goal.contains-requires
-contains-requires c = let f = steps_few c.args.steps.now in let u = c.requires.up in let v = c.requires.on_line in search rules
-
 pub returns : goal.returns
 returns c =
     c.contains.ensures

@@ -7,9 +7,9 @@ use Rattle.matcher.proofs.survey.write_row.Goals as goal
 
 pub loop-b-init : goal.loop-b-init
 loop-b-init c =
-    let h = c.next_in-b.ensures in
+    let h = c.end_from-b.ensures in
     let above = h.above in
-    let s = row_start (holds c.args.table.now) c.args.a c.args.n c.next_in-b.result h in
+    let s = row_start (holds c.args.table.now) c.args.a c.args.n c.end_from-b.result h in
     let e = ap length s in (
       subst (λ (l : List Stretch). Puts c.args.out.now c.args.out.now l c.args.place) s (puts_none c.args.out.now c.args.place),
       omega arith,
