@@ -1,20 +1,42 @@
 //! Fitting and listing by a bound query in a lent sheet.
 
-ghost use Rattle.std.specs.Prelude.{◌≡◌, ℕ, ◌≤◌, length, take};
+ghost use Rattle.std.specs.Prelude.{◌≡◌, length, take};
 ghost use Rattle.query.specs.Stands.{query_in};
 ghost use Rattle.shape.specs.Listing.{listing};
 ghost use Rattle.steps.specs.Meaning.{steps_of};
-ghost use Rattle.matcher.specs.Answers.{usable};
+ghost use Rattle.matcher.specs.Answers.{fit_refusal, list_refusal};
 ghost use Rattle.matcher.specs.Answers.{fit_number, fit_returned, fit_answer};
 ghost use Rattle.matcher.specs.Answers.{list_number, list_returned, ListsSheet, list_answer, list_out};
 
 use crate::faults::{FitFault, ListFault};
 use crate::survey::{fits_records, list_records};
-use query::{Node, Stage, is_query};
+use query::Node;
 use refusal::Refusal;
 use shape::Stretch;
 use steps::Steps;
-use text::BoundShape;
+use text::{BoundShape, SheetFault};
+
+impl From<SheetFault> for FitFault {
+    ghost from_gives = { λ fault told. told ≡ fit_refusal fault };
+
+    fn from(fault: SheetFault) -> FitFault {
+        match fault {
+            SheetFault::Short => FitFault::Sheet,
+            SheetFault::Unbound => FitFault::Records,
+        }
+    }
+}
+
+impl From<SheetFault> for ListFault {
+    ghost from_gives = { λ fault told. told ≡ list_refusal fault };
+
+    fn from(fault: SheetFault) -> ListFault {
+        match fault {
+            SheetFault::Short => ListFault::Sheet,
+            SheetFault::Unbound => ListFault::Records,
+        }
+    }
+}
 
 impl Refusal for FitFault {
     ghost number = { fit_number };
@@ -60,14 +82,6 @@ impl Refusal for ListFault {
     }
 }
 
-// Whether the first records of the sheet are a query bound by an alphabet of so many symbols.
-fn is_bound(sheet: &[Node], count: usize, symbols: u8) -> bool
-    requires { 64 ≤ length sheet.now }
-    ensures { result ≡ usable symbols count sheet.now }
-{
-    count <= 64 && is_query(&sheet[0..count], Stage::Bound(symbols))
-}
-
 /// Whether the bound query in the first records of the sheet fits the stretch (a, b) of the line, seen from 0.
 pub fn fit(
     shape: &BoundShape,
@@ -79,18 +93,12 @@ pub fn fit(
 ) -> Result<bool, FitFault>
     ensures { result ≡ fit_answer symbols shape.now.records sheet.now (steps_of steps.now) a b }
 {
-    let count = shape.count();
-    if sheet.len() < 64 {
-        return Err(FitFault::Sheet);
-    }
-    if !is_bound(sheet, count, symbols) {
-        return Err(FitFault::Records);
-    }
+    let records = shape.records_in(sheet, symbols)?;
     let n = steps.len();
     if a > b || b > n {
         return Err(FitFault::Stretch(n));
     }
-    Ok(fits_records(&sheet[0..count], steps, a as u8, b as u8))
+    Ok(fits_records(records, steps, a as u8, b as u8))
 }
 
 /// Lists the stretches of the line that the bound query in the first records of the sheet fits, seen from 0, but for null ones: writes them
@@ -106,12 +114,5 @@ pub fn list(
     ensures answer { result ≡ list_answer symbols shape.now.records sheet.now (steps_of steps.now) (length out.old) }
     ensures out { out.new ≡ list_out result (listing (steps_of steps.now) (query_in (take shape.now.records sheet.now))) out.old }
 {
-    let count = shape.count();
-    if sheet.len() < 64 {
-        return Err(ListFault::Sheet);
-    }
-    if !is_bound(sheet, count, symbols) {
-        return Err(ListFault::Records);
-    }
-    list_records(&sheet[0..count], steps, out)
+    list_records(shape.records_in(sheet, symbols)?, steps, out)
 }

@@ -1,9 +1,8 @@
-use Rattle.std.proofs.Common.{◌∙◌, arith, rules}
+use Rattle.std.proofs.Common.{◌∙◌, arith}
 use Rattle.std.proofs.lemmas.Bool.Decides.{same_from_decides}
 use Rattle.query.specs.Stands.{query_in}
 use Rattle.shape.specs.Fits.{fits}
 use Rattle.steps.specs.Meaning.{steps_of}
-use Rattle.steps.proofs.Length.{steps_few}
 use Rattle.tables.specs.Holds.{holds}
 use Rattle.matcher.proofs.survey.fits_records.Goals as goal
 
