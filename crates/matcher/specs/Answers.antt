@@ -7,6 +7,8 @@ use Rattle.query.specs.Stands.{is_query, query_in}
 use Rattle.shape.specs.declared.stretch.Stretch.{Stretch}
 use Rattle.shape.specs.Fits.{fits}
 use Rattle.shape.specs.Listing.{listing}
+use Rattle.text.specs.declared.fault.SheetFault.{SheetFault}
+use Rattle.text.specs.declared.fault.SheetFault.TheVariants as sheet
 use Rattle.matcher.specs.declared.faults.FitFault.{FitFault}
 use Rattle.matcher.specs.declared.faults.ListFault.{ListFault}
 use Rattle.matcher.specs.declared.faults.FitFault.TheVariants as fit
@@ -32,6 +34,15 @@ abbrev pub list_returned : ListFault → ℕ
 list_returned list.Sheet = 64
 list_returned list.Records = 0
 list_returned (list.Buffer m) = m
+
+-- what a fit and a listing say where a sheet does not hold the records of a bound shape
+abbrev pub fit_refusal : SheetFault → FitFault
+fit_refusal sheet.Short = fit.Sheet
+fit_refusal sheet.Unbound = fit.Records
+
+abbrev pub list_refusal : SheetFault → ListFault
+list_refusal sheet.Short = list.Sheet
+list_refusal sheet.Unbound = list.Records
 
 -- the first records of the sheet are a query bound by an alphabet of so many symbols
 abbrev pub usable : ℕ → ℕ → List Node → Bool

@@ -1,25 +1,49 @@
 //! Fitting and listing by a bound query in a lent sheet.
 
-ghost use Rattle.std.specs.Prelude.{◌≡◌, ℕ, ◌≤◌, length, take};
+ghost use Rattle.std.specs.Prelude.{◌≡◌, length, take};
 ghost use Rattle.query.specs.Stands.{query_in};
 ghost use Rattle.shape.specs.Listing.{listing};
 ghost use Rattle.steps.specs.Meaning.{steps_of};
-ghost use Rattle.matcher.specs.Answers.{usable};
+ghost use Rattle.matcher.specs.Answers.{fit_refusal, list_refusal};
 ghost use Rattle.matcher.specs.Answers.{fit_number, fit_returned, fit_answer};
 ghost use Rattle.matcher.specs.Answers.{list_number, list_returned, ListsSheet, list_answer, list_out};
 
 use crate::faults::{FitFault, ListFault};
 use crate::survey::{fits_records, list_records};
-use query::{Node, Stage, is_query};
+use query::Node;
+use refusal::Refusal;
 use shape::Stretch;
 use steps::Steps;
-use text::BoundShape;
+use text::{BoundShape, SheetFault};
 
-impl FitFault {
-    /// The refusal's number.
-    pub fn number(self) -> u8
-        ensures { result ≡ fit_number self }
-    {
+impl From<SheetFault> for FitFault {
+    ghost from_gives = { λ fault told. told ≡ fit_refusal fault };
+
+    fn from(fault: SheetFault) -> FitFault {
+        match fault {
+            SheetFault::Short => FitFault::Sheet,
+            SheetFault::Unbound => FitFault::Records,
+        }
+    }
+}
+
+impl From<SheetFault> for ListFault {
+    ghost from_gives = { λ fault told. told ≡ list_refusal fault };
+
+    fn from(fault: SheetFault) -> ListFault {
+        match fault {
+            SheetFault::Short => ListFault::Sheet,
+            SheetFault::Unbound => ListFault::Records,
+        }
+    }
+}
+
+impl Refusal for FitFault {
+    ghost number = { fit_number };
+
+    ghost returned = { fit_returned };
+
+    fn number(&self) -> u8 {
         match self {
             FitFault::Sheet => 6,
             FitFault::Records => 14,
@@ -27,11 +51,8 @@ impl FitFault {
         }
     }
 
-    /// What is returned with it.
-    pub fn returned(self) -> usize
-        ensures { result ≡ fit_returned self }
-    {
-        match self {
+    fn returned(&self) -> usize {
+        match *self {
             FitFault::Sheet => 64,
             FitFault::Records => 0,
             FitFault::Stretch(n) => n,
@@ -39,11 +60,12 @@ impl FitFault {
     }
 }
 
-impl ListFault {
-    /// The refusal's number.
-    pub fn number(self) -> u8
-        ensures { result ≡ list_number self }
-    {
+impl Refusal for ListFault {
+    ghost number = { list_number };
+
+    ghost returned = { list_returned };
+
+    fn number(&self) -> u8 {
         match self {
             ListFault::Sheet => 6,
             ListFault::Records => 14,
@@ -51,24 +73,13 @@ impl ListFault {
         }
     }
 
-    /// What is returned with it.
-    pub fn returned(self) -> usize
-        ensures { result ≡ list_returned self }
-    {
-        match self {
+    fn returned(&self) -> usize {
+        match *self {
             ListFault::Sheet => 64,
             ListFault::Records => 0,
             ListFault::Buffer(m) => m,
         }
     }
-}
-
-// Whether the first records of the sheet are a query bound by an alphabet of so many symbols.
-fn is_bound(sheet: &[Node], count: usize, symbols: u8) -> bool
-    requires { 64 ≤ length sheet.now }
-    ensures { result ≡ usable symbols count sheet.now }
-{
-    count <= 64 && is_query(&sheet[0..count], Stage::Bound(symbols))
 }
 
 /// Whether the bound query in the first records of the sheet fits the stretch (a, b) of the line, seen from 0.
@@ -82,18 +93,12 @@ pub fn fit(
 ) -> Result<bool, FitFault>
     ensures { result ≡ fit_answer symbols shape.now.records sheet.now (steps_of steps.now) a b }
 {
-    let count = shape.count();
-    if sheet.len() < 64 {
-        return Err(FitFault::Sheet);
-    }
-    if !is_bound(sheet, count, symbols) {
-        return Err(FitFault::Records);
-    }
+    let records = shape.records_in(sheet, symbols)?;
     let n = steps.len();
     if a > b || b > n {
         return Err(FitFault::Stretch(n));
     }
-    Ok(fits_records(&sheet[0..count], steps, a, b))
+    Ok(fits_records(records, steps, a as u8, b as u8))
 }
 
 /// Lists the stretches of the line that the bound query in the first records of the sheet fits, seen from 0, but for null ones: writes them
@@ -109,12 +114,5 @@ pub fn list(
     ensures answer { result ≡ list_answer symbols shape.now.records sheet.now (steps_of steps.now) (length out.old) }
     ensures out { out.new ≡ list_out result (listing (steps_of steps.now) (query_in (take shape.now.records sheet.now))) out.old }
 {
-    let count = shape.count();
-    if sheet.len() < 64 {
-        return Err(ListFault::Sheet);
-    }
-    if !is_bound(sheet, count, symbols) {
-        return Err(ListFault::Records);
-    }
-    list_records(&sheet[0..count], steps, out)
+    list_records(shape.records_in(sheet, symbols)?, steps, out)
 }

@@ -18,7 +18,7 @@ use query::Node;
 use shape::Stretch;
 use steps::Steps;
 use tables::Table;
-use walk::{Kept, keep, seen};
+use walk::{Kept, Sight, Walk, keep};
 use wholes::View;
 
 // The stretches that the query fits, null ones too.
@@ -30,28 +30,29 @@ fn survey(records: &[Node], steps: &Steps) -> Table
     for i in (0..records.len()).rev() {
         keep(&mut kept, records, steps, i);
     }
+    let sight = Sight {
+        walk: Walk {
+            records,
+            steps,
+            kept: &kept,
+            from: 0,
+        },
+        view: View::From(0),
+        to: steps.len() as u8,
+    };
     let mut out = Table::empty();
-    seen(
-        records,
-        steps,
-        &kept,
-        0,
-        View::From(0),
-        steps.len() as u8,
-        16,
-        &mut out,
-    );
+    sight.seen(0, 16, &mut out);
     out
 }
 
 // Whether the query in the records fits the stretch.
-pub(crate) fn fits_records(records: &[Node], steps: &Steps, a: usize, b: usize) -> bool
+pub(crate) fn fits_records(records: &[Node], steps: &Steps, a: u8, b: u8) -> bool
     requires query { IsQuery records.now }
     requires up { a ≤ b }
     requires on_line { b ≤ length (steps_of steps.now) }
     ensures { result ≡ fits (steps_of steps.now) (query_in records.now) 0 a b }
 {
-    survey(records, steps).contains(a as u8, b as u8)
+    survey(records, steps).contains(a, b)
 }
 
 // The first end from b on of a stretch that begins at a, or 256 where there is none.

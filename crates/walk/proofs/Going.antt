@@ -1,5 +1,5 @@
 -- What the walk through a query knows at each record, by its kind, and at each of its parts.
-use Rattle.std.proofs.Common.{◌≡◌, ℕ, suc, ◌+◌, ◌-◌, ◌<◌, ◌≤◌, Bool, true, false, List, [], ◌∷◌, length, get_or, sym, refl, ap, ◌∙◌, subst, arith}
+use Rattle.std.proofs.Common.{◌≡◌, ℕ, ◌+◌, ◌-◌, ◌<◌, ◌≤◌, Bool, true, false, List, [], ◌∷◌, length, sym, refl, ap, ◌∙◌, subst, arith}
 use Rattle.std.proofs.lemmas.Bool.{false≢true, eqb-true, ltb-true}
 use Rattle.query.specs.declared.node.Kind.{Kind}
 use Rattle.query.specs.declared.node.Kind.TheVariants.{Symbol, Any, Concat, Exact, Atleast, Atmost, In, Precisely, Noless, Nomore, And, Or, Inorder}
@@ -15,8 +15,8 @@ use Rattle.wholes.specs.declared.view.View.TheVariants.{Own}
 use Rattle.wholes.specs.declared.view.Many.{Many}
 use Rattle.wholes.specs.Shows.{carrying, repeated, counting, windowed, Shows, Later}
 use Rattle.walk.specs.declared.kept.Kept.{Kept}
-use Rattle.walk.specs.Walk.{Stands, EachStands, rule, rules, many_of, repeats, Ready, RightFrom}
-use Rattle.walk.proofs.Walking.{first, Opened, opened, lifted, Left, left_more, rules_more, rules_none}
+use Rattle.walk.specs.Walk.{Stands, EachStands, rule, rules, many_of, repeats, RightFrom}
+use Rattle.walk.proofs.Walking.{first, Opened, rules_more, rules_none}
 
 -- a table seen from each stretch's own start
 pub shows_own : (t : Table) (P : Rule) (v : View) (to n : ℕ) → v ≡ Own → to ≤ n → Shows t P Own n n → Shows t P v to n
@@ -28,43 +28,11 @@ shows_own t P v to n e l h =
     })
 
 -- what may follow, for the same number of pieces
-pub later_as : (xs : List Table) (i : ℕ) (P : Rule) (many other : Many) (n : ℕ) → other ≡ many → ((d : Table) → Later (get_or xs i d) P many n) →
-    (d : Table) → Later (get_or xs i d) P other n
-later_as xs i P many other n e h d = subst (λ (m : Many). Later (get_or xs i d) P m n) (sym e) (h d)
+pub later_as : (t : Table) (P : Rule) (many other : Many) (n : ℕ) → other ≡ many → Later t P many n → Later t P other n
+later_as t P many other n e h = subst (λ (m : Many). Later t P m n) (sym e) h
 
 pub right_on : (k : Kept) (ns : List Node) (words : List ℕ) (i j : ℕ) → i ≤ j → RightFrom k ns words i → RightFrom k ns words j
 right_on k ns words i j l h = record { few = h.few; right = λ x u. h.right x (omega arith) }
-
-pub ready_at : (k : Kept) (ns : List Node) (words : List ℕ) (i j : ℕ) → i ≤ j → RightFrom k ns words i → Ready k ns words j
-ready_at k ns words i j l h = (h.right j l).ready
-
--- one of the parts that are left: it stands there, all that is kept of it is right, and the next one is known
-pub record Part (k : Kept) (ns : List Node) (words : List ℕ) (d : ℕ) (r : Role) (start m less p : ℕ) : Type 0 where
-  pub here : Stands d ns r p
-  pub inside : p < length ns
-  pub few : length ns ≤ 64
-  pub right : RightFrom k ns words p
-  pub left : Left d ns r start less (get_or k.next p 0)
-  pub rules_are : rules words ns m p ≡ rule words ns p ∷ rules words ns less (get_or k.next p 0)
-  pub own : r ≡ Shape → (t : Table) → Shows (get_or k.own p t) (rule words ns p) Own (length words) (length words)
-
-pub one_part : (k : Kept) (ns : List Node) (words : List ℕ) (d : ℕ) (r : Role) (start m less p : ℕ) → d ≤ 16 → m ≡ suc less →
-    RightFrom k ns words start → Left d ns r start m p → Part k ns words d r start m less p
-one_part k ns words d r start m less p l e h left =
-    let f = first d ns r m less p l e left.each in
-    let up = lifted d ns r p l f.here in
-    let o = opened d ns r p l f.here in
-    let q = h.right p left.further in
-    let n : get_or k.next p 0 ≡ next_at 16 ns p = q.next r up in
-    record {
-      here = f.here;
-      inside = o.inside;
-      few = h.few;
-      right = right_on k ns words start p left.further h;
-      left = subst (λ (x : ℕ). Left d ns r start less x) (sym n) (left_more d ns r start m less p l e left);
-      rules_are = rules_more words ns m less p e ∙ ap (λ (x : ℕ). rule words ns p ∷ rules words ns less x) (sym n);
-      own = λ s t. q.own (subst (λ (x : Role). Stands 16 ns x p) s up) t;
-    }
 
 module _ (words : List ℕ) (d : ℕ) (ns : List Node) (r : Role) (i : ℕ) (o : Opened d ns r i) where
   abbrev K : Kind

@@ -1,5 +1,5 @@
 -- Where queries stand in records, and what is kept of them. Assumes nothing.
-use Rattle.std.specs.Prelude.{◌≡◌, ℕ, ◌+◌, ◌≤◌, true, List, length, Some, ◌≢◌, slice_index, slice_index_or, slice_set}
+use Rattle.std.specs.Prelude.{◌≡◌, ℕ, ◌+◌, ◌≤◌, true, List, length, Some, ◌≢◌, slice_index_or}
 use Rattle.query.specs.declared.node.Kind.{Kind}
 use Rattle.query.specs.declared.node.Kind.TheVariants.{Symbol, Any, Concat, Exact, Atleast, Atmost, In, Precisely, Noless, Nomore, And, Or, Inorder}
 use Rattle.query.specs.declared.node.Node.{Node}
@@ -9,12 +9,11 @@ use Rattle.query.specs.declared.node.Stage.{Stage}
 pub use Rattle.query.specs.Kinds.{repeats}
 use Rattle.query.specs.Stands.{at, parts_from, next_at, tree_at, ends, end_at, is_query}
 use Rattle.shape.specs.Fits.{Rule, fits, fits_each}
-use Rattle.ends.specs.Member.{nothing}
-use Rattle.tables.specs.declared.table.Table.{Table}
 use Rattle.wholes.specs.declared.view.View.TheVariants.{Own}
 use Rattle.wholes.specs.declared.view.Many.{Many}
 use Rattle.wholes.specs.declared.view.Many.TheVariants.{Exactly, AtLeast, AtMost}
 use Rattle.wholes.specs.Shows.{Shows, Later, Stops}
+use Rattle.walk.specs.declared.kept.Entry.{Entry}
 use Rattle.walk.specs.declared.kept.Kept.{Kept}
 
 -- a query of at most d levels stands at record i in this role
@@ -49,16 +48,20 @@ many_of And n = AtMost n
 many_of Or n = AtMost n
 many_of Inorder n = AtMost n
 
+-- what is kept of record i, or another entry where that is no record
+abbrev pub entry : Kept → ℕ → Entry → Entry
+entry k i d = slice_index_or k.entries i d
+
 -- what is kept of record i for a repeat is right
 pub record Ready (k : Kept) (ns : List Node) (words : List ℕ) (i : ℕ) : Type 0 where
-  pub later : repeats (at ns i).kind ≡ true → Stands 16 ns Shape (i + 1) → (d : Table) →
-      Later (slice_index_or k.later i d) (rule words ns (i + 1)) (many_of (at ns i).kind (at ns i).number) (length words)
-  pub stops : repeats (at ns i).kind ≡ true → Stands 16 ns Shape (i + 1) → Stops (slice_index_or k.stops i nothing) (rule words ns (i + 1)) (length words)
+  pub later : repeats (at ns i).kind ≡ true → Stands 16 ns Shape (i + 1) → (d : Entry) →
+      Later (entry k i d).later (rule words ns (i + 1)) (many_of (at ns i).kind (at ns i).number) (length words)
+  pub stops : repeats (at ns i).kind ≡ true → Stands 16 ns Shape (i + 1) → (d : Entry) → Stops (entry k i d).stops (rule words ns (i + 1)) (length words)
 
 -- all that is kept of record i is right
 pub record Right (k : Kept) (ns : List Node) (words : List ℕ) (i : ℕ) : Type 0 where
-  pub next : (r : Role) → Stands 16 ns r i → slice_index k.next i ≡ next_at 16 ns i
-  pub own : Stands 16 ns Shape i → (d : Table) → Shows (slice_index_or k.own i d) (rule words ns i) Own (length words) (length words)
+  pub next : (r : Role) → Stands 16 ns r i → (d : Entry) → (entry k i d).next ≡ next_at 16 ns i
+  pub own : Stands 16 ns Shape i → (d : Entry) → Shows (entry k i d).own (rule words ns i) Own (length words) (length words)
   pub ready : Ready k ns words i
 
 -- what is kept of the records from i on is right, and there are at most 64
@@ -66,32 +69,38 @@ pub record RightFrom (k : Kept) (ns : List Node) (words : List ℕ) (i : ℕ) : 
   pub few : length ns ≤ 64
   pub right : (x : ℕ) → i ≤ x → Right k ns words x
 
+-- what a walk that begins at record i uses is right: what is kept of it as a repeat, and all that is kept of the later records
+pub record ReadyFrom (k : Kept) (ns : List Node) (words : List ℕ) (i : ℕ) : Type 0 where
+  pub ready : Ready k ns words i
+  pub later : RightFrom k ns words (i + 1)
+
 -- a query of at most 16 levels stands at record i in some role
 abbrev pub Somehow : List Node → ℕ → Type 0
 Somehow ns i = (r : Role) × Stands 16 ns r i
 
+-- of every record but i the same is kept
+abbrev pub SameBut : Kept → Kept → ℕ → Type 0
+SameBut k l i = (x : ℕ) → (x ≢ i) → (d : Entry) → entry l x d ≡ entry k x d
+
 -- the record after that of record i is kept, and nothing else has changed
 pub record KeptNext (k l : Kept) (i next : ℕ) : Type 0 where
-  pub nexts : l.next ≡ slice_set k.next i next
-  pub owns : l.own ≡ k.own
-  pub laters : l.later ≡ k.later
-  pub all_stops : l.stops ≡ k.stops
+  pub others : SameBut k l i
+  pub here : (d : Entry) → entry l i d ≡ record (entry k i d) { next = next }
 
 -- what record i needs as a repeat is kept, and nothing else has changed
 pub record KeptRepeat (k l : Kept) (ns : List Node) (words : List ℕ) (i : ℕ) : Type 0 where
-  pub nexts : l.next ≡ k.next
-  pub owns : l.own ≡ k.own
-  pub laters : (x : ℕ) → (x ≢ i) → (d : Table) → slice_index_or l.later x d ≡ slice_index_or k.later x d
-  pub all_stops : (x : ℕ) → (x ≢ i) → slice_index_or l.stops x nothing ≡ slice_index_or k.stops x nothing
+  pub others : SameBut k l i
+  pub next : (d : Entry) → (entry l i d).next ≡ (entry k i d).next
+  pub own : (d : Entry) → (entry l i d).own ≡ (entry k i d).own
   pub ready : Ready l ns words i
 
 -- what record i fits is kept, and nothing else has changed
 pub record KeptOwn (k l : Kept) (ns : List Node) (words : List ℕ) (i : ℕ) : Type 0 where
-  pub nexts : l.next ≡ k.next
-  pub laters : l.later ≡ k.later
-  pub all_stops : l.stops ≡ k.stops
-  pub owns : (x : ℕ) → (x ≢ i) → (d : Table) → slice_index_or l.own x d ≡ slice_index_or k.own x d
-  pub here : Stands 16 ns Shape i → (d : Table) → Shows (slice_index_or l.own i d) (rule words ns i) Own (length words) (length words)
+  pub others : SameBut k l i
+  pub next : (d : Entry) → (entry l i d).next ≡ (entry k i d).next
+  pub later : (d : Entry) → (entry l i d).later ≡ (entry k i d).later
+  pub stops : (d : Entry) → (entry l i d).stops ≡ (entry k i d).stops
+  pub here : Stands 16 ns Shape i → (d : Entry) → Shows (entry l i d).own (rule words ns i) Own (length words) (length words)
 
 -- the records are a query that has come to some stage
 abbrev pub IsQuery : List Node → Type 0

@@ -1,14 +1,20 @@
 //! What is kept of each record is made once, parts before wholes.
 
-ghost use Rattle.std.specs.Prelude.{◌≡◌, ℕ, ◌+◌, ◌<◌, ◌≤◌, true, length, slice_index};
+ghost use Rattle.std.specs.Prelude.{◌≡◌, ℕ, ◌+◌, ◌<◌, ◌≤◌, true, length};
 ghost use Rattle.query.specs.declared.node.Role.{Role};
+ghost use Rattle.query.specs.declared.node.Role.TheVariants.{Shape};
 ghost use Rattle.query.specs.Stands.{next_at};
 ghost use Rattle.steps.specs.Meaning.{steps_of};
-ghost use Rattle.walk.specs.Walk.{Stands, Somehow, Ready};
+ghost use Rattle.wholes.specs.declared.view.View.TheVariants.{Own};
+ghost use Rattle.wholes.specs.Shows.{Shows};
+ghost use Rattle.walk.specs.declared.kept.Entry.{Entry};
+ghost use Rattle.walk.specs.Walk.{Stands, Somehow, Ready, entry, rule};
 ghost use Rattle.walk.specs.Walk.{KeptNext, KeptRepeat, KeptOwn, RightFrom};
 
-use crate::kept::Kept;
-use crate::walk::{many_of, seen};
+use crate::kept::{Entry, Kept};
+use crate::many::many_of;
+use crate::sight::Sight;
+use crate::walk::Walk;
 use ends::Ends;
 use query::{Node, Role};
 use steps::Steps;
@@ -18,11 +24,14 @@ use wholes::View;
 impl Kept {
     /// Nothing is kept yet.
     pub fn empty() -> Kept {
+        let nothing = Entry {
+            next: 0,
+            own: Table::empty(),
+            later: Table::empty(),
+            stops: Ends::empty(),
+        };
         Kept {
-            next: [0; 64],
-            own: [Table::empty(); 64],
-            later: [Table::empty(); 64],
-            stops: [Ends::empty(); 64],
+            entries: [nothing; 64],
         }
     }
 }
@@ -31,12 +40,12 @@ impl Kept {
 fn record_after(records: &[Node], kept: &Kept, i: usize) -> usize
     requires stands { Somehow records.now i }
     requires few { length records.now ≤ 64 }
-    requires nexts { (x : ℕ) → i < x → (r : Role) → Stands 16 records.now r x → slice_index kept.now.next x ≡ next_at 16 records.now x }
+    requires nexts { (x : ℕ) → i < x → (r : Role) → Stands 16 records.now r x → (d : Entry) → (entry kept.now x d).next ≡ next_at 16 records.now x }
     ensures { result ≡ next_at 16 records.now i }
 {
     let mut next = i + 1;
     for k in 0..records[i].parts {
-        next = kept.next[next];
+        next = kept.entries[next].next;
     }
     next
 }
@@ -46,7 +55,7 @@ fn keep_next(kept: &mut Kept, i: usize, next: usize)
     requires { i < 64 }
     ensures { KeptNext kept.old kept.new i next }
 {
-    kept.next[i] = next;
+    kept.entries[i].next = next;
 }
 
 // Keeps what may follow the first piece of a repeat, and where it may stop.
@@ -59,9 +68,34 @@ fn keep_repeat(kept: &mut Kept, records: &[Node], steps: &Steps, i: usize)
     if !node.kind.is_repeat() {
         return;
     }
-    let own = kept.own[i + 1];
-    kept.later[i] = wholes::later(&own, many_of(node), steps.len() as u8);
-    kept.stops[i] = wholes::stops(&own, steps.len() as u8);
+    let own = kept.entries[i + 1].own;
+    let later = wholes::later(&own, many_of(node), steps.len() as u8);
+    let stops = wholes::stops(&own, steps.len() as u8);
+    kept.entries[i] = Entry {
+        later,
+        stops,
+        ..kept.entries[i]
+    };
+}
+
+// What the shape at record i fits, each stretch seen from its own start.
+fn found(kept: &Kept, records: &[Node], steps: &Steps, i: usize, out: &mut Table)
+    requires stands { Stands 16 records.now Shape i }
+    requires right { RightFrom kept.now records.now (steps_of steps.now) (i + 1) }
+    requires ready { Ready kept.now records.now (steps_of steps.now) i }
+    ensures { Shows out.new (rule (steps_of steps.now) records.now i) Own (length (steps_of steps.now)) (length (steps_of steps.now)) }
+{
+    let sight = Sight {
+        walk: Walk {
+            records,
+            steps,
+            kept,
+            from: i,
+        },
+        view: View::Own,
+        to: steps.len() as u8,
+    };
+    sight.seen(i, 16, out);
 }
 
 // Keeps what a shape fits, each stretch seen from its own start.
@@ -75,17 +109,8 @@ fn keep_own(kept: &mut Kept, records: &[Node], steps: &Steps, i: usize)
         return;
     }
     let mut own = Table::empty();
-    seen(
-        records,
-        steps,
-        kept,
-        i,
-        View::Own,
-        steps.len() as u8,
-        16,
-        &mut own,
-    );
-    kept.own[i] = own;
+    found(kept, records, steps, i, &mut own);
+    kept.entries[i].own = own;
 }
 
 // Keeps all of record i.

@@ -4,8 +4,14 @@
 
 mod keeping;
 mod kept;
+mod many;
+mod parts;
+mod seeing;
+mod sight;
 mod walk;
+mod windows;
 
 pub use keeping::keep;
 pub use kept::Kept;
-pub use walk::seen;
+pub use sight::Sight;
+pub use walk::Walk;

@@ -1,17 +1,10 @@
-use Rattle.std.proofs.Common.{◌∙◌, arith, rules}
+use Rattle.std.proofs.Common.{◌∙◌, arith}
 use Rattle.std.proofs.lemmas.Bool.Decides.{same_from_decides}
 use Rattle.query.specs.Stands.{query_in}
 use Rattle.shape.specs.Fits.{fits}
 use Rattle.steps.specs.Meaning.{steps_of}
-use Rattle.steps.proofs.Length.{steps_few}
 use Rattle.tables.specs.Holds.{holds}
 use Rattle.matcher.proofs.survey.fits_records.Goals as goal
-
-pub overflow_cast-a : goal.overflow_cast-a
-overflow_cast-a c = let f = steps_few c.args.steps.now in let u = c.requires.up in let v = c.requires.on_line in search rules
-
-pub overflow_cast-b : goal.overflow_cast-b
-overflow_cast-b c = let f = steps_few c.args.steps.now in let v = c.requires.on_line in search rules
 
 pub returns : goal.returns
 returns c =

@@ -6,7 +6,7 @@ use Rattle.wholes.specs.declared.view.View.TheVariants.{From}
 use Rattle.wholes.specs.Shows.{Shows}
 use Rattle.walk.specs.Walk.{RightFrom, rule}
 use Rattle.walk.proofs.Walking.{query_stands, within}
-use Rattle.walk.proofs.Going.{right_on, ready_at}
+use Rattle.walk.proofs.Going.{right_on}
 use Rattle.walk.proofs.Standing.{right_none}
 use Rattle.matcher.proofs.survey.survey.Goals as goal
 
@@ -22,19 +22,19 @@ keep-requires c =
       right = subst (RightFrom c.loop-i.kept c.args.records.now (steps_of c.args.steps.now)) e c.loop-i.invariant;
     }
 
-pub seen-requires : goal.seen-requires
-seen-requires c =
-    let q = query_stands c.requires.0 c.args.records.now c.requires.1 in
-    let e = c.len.ensures.length in
+pub invariant_of-sight : goal.invariant_of-sight
+invariant_of-sight c =
+    let words = steps_of c.args.steps.now in
     let z : c.loop-i.i ≤ 0 = search rules in
     record {
-      stands = (c.requires.0, length c.args.records.now, q.1);
-      deep = omega arith;
-      right = right_on c.loop-i.kept c.args.records.now (steps_of c.args.steps.now) c.loop-i.i (0 + 1) (omega arith) c.loop-i.invariant;
-      ready = ready_at c.loop-i.kept c.args.records.now (steps_of c.args.steps.now) c.loop-i.i 0 z c.loop-i.invariant;
-      low = omega arith;
-      high = omega arith;
+      right = ∣ record {
+        ready = (c.loop-i.invariant.right 0 z).ready;
+        later = right_on c.loop-i.kept c.args.records.now words c.loop-i.i (0 + 1) (omega arith) c.loop-i.invariant;
+      } ∣₁;
     }
+
+pub seen-requires : goal.seen-requires
+seen-requires c = record { deep = omega arith; reached = omega arith; stands = (c.requires.0, length c.args.records.now, (query_stands c.requires.0 c.args.records.now c.requires.1).1) }
 
 pub returns : goal.returns
 unfolding query_in

@@ -1,10 +1,7 @@
-use Rattle.std.proofs.Common.{ℕ, length, sym, refl, ◌∙◌, subst, arith, rules}
+use Rattle.std.proofs.Common.{sym, refl, ◌∙◌, arith, rules}
 use Rattle.std.proofs.lemmas.Bool.{false≢true}
 use Rattle.query.specs.declared.node.Role.TheVariants.{Shape}
 use Rattle.steps.specs.Meaning.{steps_of}
-use Rattle.wholes.specs.declared.view.View.TheVariants.{Own}
-use Rattle.wholes.specs.Shows.{Shows}
-use Rattle.walk.specs.Walk.{rule}
 use Rattle.walk.proofs.Walking.{opened, in_role}
 use Rattle.walk.proofs.Standing.{own_kept}
 use Rattle.walk.proofs.keeping.keep_own.Goals as goal
@@ -26,20 +23,20 @@ bounds-kept-i c = let o = opened 16 c.args.records.now c.requires.stands.0 c.arg
 
 pub returns-then-not-may_stand : goal.returns-then-not-may_stand
 returns-then-not-may_stand c = record {
-  nexts = refl;
-  laters = refl;
-  all_stops = refl;
-  owns = λ x ne d. refl;
+  others = λ x ne d. refl;
+  next = λ d. refl;
+  later = λ d. refl;
+  stops = λ d. refl;
   here = λ u d. absurd (false≢true (sym (sym c.may_stand.ensures ∙ c.if-not-may_stand.true) ∙ (opened 16 c.args.records.now Shape c.args.i (omega arith) u).kind_right));
 }
 
-pub seen-requires : goal.seen-requires
-seen-requires c =
+pub found-requires : goal.found-requires
+found-requires c =
     let up = in_role 16 c.args.records.now c.requires.stands.0 Shape c.args.i (sym c.may_stand.ensures ∙ c.if-not-may_stand.false) c.requires.stands.1 in
-    record { stands = up; deep = omega arith; right = c.requires.right; ready = c.requires.ready; low = omega arith; high = (let e = c.len.ensures.length in omega arith) }
+    record { stands = up; right = c.requires.right; ready = c.requires.ready }
 
 pub returns : goal.returns
 returns c =
-    let o = opened 16 c.args.records.now c.requires.stands.0 c.args.i (omega arith) c.requires.stands.1 in let f = c.requires.right.few in
-    own_kept c.args.kept.now _ c.args.records.now (steps_of c.args.steps.now) c.args.i c.seen.new.out (omega arith) refl refl refl refl
-    (subst (λ (n : ℕ). Shows c.seen.new.out (rule (steps_of c.args.steps.now) c.args.records.now c.args.i) Own n (length (steps_of c.args.steps.now))) c.len.ensures.length c.seen.ensures)
+    let o = opened 16 c.args.records.now c.requires.stands.0 c.args.i (omega arith) c.requires.stands.1 in
+    let f = c.requires.right.few in
+    own_kept c.args.kept.now _ c.args.i _ (omega arith) refl c.args.records.now (steps_of c.args.steps.now) c.index-kept-i.result refl refl refl c.found.ensures

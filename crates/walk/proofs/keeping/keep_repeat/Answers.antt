@@ -35,15 +35,11 @@ listed-2 c = let up = repeated_part c.args.records.now c.args.i c.requires.stand
 pub bounds-kept-i-2 : goal.bounds-kept-i-2
 bounds-kept-i-2 c = let up = repeated_part c.args.records.now c.args.i c.requires.stands (sym c.is_repeat.ensures ∙ c.if-not-is_repeat.false) in let o = opened 16 c.args.records.now Shape (c.args.i + 1) (omega arith) up in let f = c.requires.right.few in search rules
 
-pub offset_bounds-kept-i-3 : goal.offset_bounds-kept-i-3
-offset_bounds-kept-i-3 c = let up = repeated_part c.args.records.now c.args.i c.requires.stands (sym c.is_repeat.ensures ∙ c.if-not-is_repeat.false) in let o = opened 16 c.args.records.now Shape (c.args.i + 1) (omega arith) up in let f = c.requires.right.few in search rules
-
-pub bounds-kept-i-3 : goal.bounds-kept-i-3
-bounds-kept-i-3 c = let up = repeated_part c.args.records.now c.args.i c.requires.stands (sym c.is_repeat.ensures ∙ c.if-not-is_repeat.false) in let o = opened 16 c.args.records.now Shape (c.args.i + 1) (omega arith) up in let f = c.requires.right.few in search rules
-
-pub later-requires : goal.later-requires
-later-requires c =
-    let up = repeated_part c.args.records.now c.args.i c.requires.stands (sym c.is_repeat.ensures ∙ c.if-not-is_repeat.false) in let o = opened 16 c.args.records.now Shape (c.args.i + 1) (omega arith) up in let f = c.requires.right.few in
+pub later-later-requires : goal.later-later-requires
+later-later-requires c =
+    let up = repeated_part c.args.records.now c.args.i c.requires.stands (sym c.is_repeat.ensures ∙ c.if-not-is_repeat.false) in
+    let o = opened 16 c.args.records.now Shape (c.args.i + 1) (omega arith) up in
+    let f = c.requires.right.few in
     let shown = ((c.requires.right.right (c.args.i + 1) (omega arith)).own up _) in
     let e = c.len.ensures.length in
     let s = c.len.ensures.few in
@@ -51,11 +47,13 @@ later-requires c =
 
 pub returns : goal.returns
 returns c =
-    let up = repeated_part c.args.records.now c.args.i c.requires.stands (sym c.is_repeat.ensures ∙ c.if-not-is_repeat.false) in let o = opened 16 c.args.records.now Shape (c.args.i + 1) (omega arith) up in let f = c.requires.right.few in
-    let s = c.len.ensures.few in
-    repeat_kept c.args.kept.now _ c.args.records.now (steps_of c.args.steps.now) c.args.i c.later.result c.stops.result (omega arith) refl refl refl refl
-    (subst (λ (m : Many). Later c.later.result (rule (steps_of c.args.steps.now) c.args.records.now (c.args.i + 1)) m (length (steps_of c.args.steps.now))) c.many_of.ensures
-    (subst (λ (n : ℕ). Later c.later.result (rule (steps_of c.args.steps.now) c.args.records.now (c.args.i + 1)) c.many_of.result n) c.len.ensures.length
-    (c.later.ensures (rule (steps_of c.args.steps.now) c.args.records.now (c.args.i + 1)) (own_at c.args.kept.now.own (c.args.i + 1) (rule (steps_of c.args.steps.now) c.args.records.now (c.args.i + 1)) (length (steps_of c.args.steps.now)) c.len.result c.len.ensures.length ((c.requires.right.right (c.args.i + 1) (omega arith)).own up) _))))
-    (subst (λ (n : ℕ). Stops c.stops.result (rule (steps_of c.args.steps.now) c.args.records.now (c.args.i + 1)) n) c.len-2.ensures.length
-    (c.stops.ensures (rule (steps_of c.args.steps.now) c.args.records.now (c.args.i + 1)) (own_at c.args.kept.now.own (c.args.i + 1) (rule (steps_of c.args.steps.now) c.args.records.now (c.args.i + 1)) (length (steps_of c.args.steps.now)) c.len-2.result c.len-2.ensures.length ((c.requires.right.right (c.args.i + 1) (omega arith)).own up) _)))
+    let up = repeated_part c.args.records.now c.args.i c.requires.stands (sym c.is_repeat.ensures ∙ c.if-not-is_repeat.false) in
+    let o = opened 16 c.args.records.now Shape (c.args.i + 1) (omega arith) up in
+    let f = c.requires.right.few in
+    let P = rule (steps_of c.args.steps.now) c.args.records.now (c.args.i + 1) in
+    let n = length (steps_of c.args.steps.now) in
+    let shown = (c.requires.right.right (c.args.i + 1) (omega arith)).own up _ in
+    repeat_kept c.args.kept.now _ c.args.i _ (omega arith) refl c.args.records.now (steps_of c.args.steps.now) c.index-kept-i-2.result c.index-kept-i-3.result refl refl
+    (subst (λ (m : Many). Later c.later-later.result P m n) c.many_of.ensures
+    (subst (λ (m : ℕ). Later c.later-later.result P c.many_of.result m) c.len.ensures.length (c.later-later.ensures P (own_at _ P n c.len.result c.len.ensures.length shown))))
+    (subst (λ (m : ℕ). Stops c.stops-stops.result P m) c.len-2.ensures.length (c.stops-stops.ensures P (own_at _ P n c.len-2.result c.len-2.ensures.length shown)))

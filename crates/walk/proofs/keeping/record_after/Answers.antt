@@ -1,5 +1,6 @@
-use Rattle.std.proofs.Common.{◌+◌, ◌-◌, get_or, arith, rules}
+use Rattle.std.proofs.Common.{◌+◌, ◌-◌, arith, rules}
 use Rattle.query.specs.Stands.{at}
+use Rattle.walk.specs.Walk.{entry}
 use Rattle.walk.proofs.Walking.{opened}
 use Rattle.walk.proofs.Standing.{leads_start, leads_here, leads_more, leads_all}
 use Rattle.walk.proofs.keeping.record_after.Goals as goal
@@ -28,11 +29,17 @@ bounds-kept-next c =
     let f = c.requires.few in
     search rules
 
+pub listed : goal.listed
+listed c =
+    let h = leads_here c.args.records.now c.args.i _ ((at c.args.records.now c.args.i).parts - (c.loop-k.k + 1)) c.loop-k.next (omega arith) c.loop-k.invariant in
+    let f = c.requires.few in
+    search rules
+
 pub loop-k-preserved : goal.loop-k-preserved
 loop-k-preserved c =
     let h = leads_here c.args.records.now c.args.i _ ((at c.args.records.now c.args.i).parts - (c.loop-k.k + 1)) c.loop-k.next (omega arith) c.loop-k.invariant in
-    leads_more c.args.records.now c.args.i _ _ c.loop-k.next (get_or c.args.kept.now.next c.loop-k.next 0) (omega arith)
-    (c.requires.nexts c.loop-k.next h.0 h.2.0 h.2.1) c.loop-k.invariant
+    leads_more c.args.records.now c.args.i _ _ c.loop-k.next (entry c.args.kept.now c.loop-k.next c.index-kept-next.result).next (omega arith)
+    (c.requires.nexts c.loop-k.next h.0 h.2.0 h.2.1 _) c.loop-k.invariant
 
 pub returns : goal.returns
 returns c = leads_all c.args.records.now c.args.i _ c.loop-k.next (omega arith) c.loop-k.invariant

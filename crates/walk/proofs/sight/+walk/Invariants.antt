@@ -1,0 +1,83 @@
+use Rattle.std.proofs.Common.{◌≡◌, ℕ, ◌+◌, ◌-◌, ◌*◌, ◌<◌, ◌≤◌, true, length, Decides}
+use Rattle.query.specs.declared.node.Role.TheVariants.{Shape, Count}
+use Rattle.ends.specs.Member.{member}
+use Rattle.wholes.specs.declared.view.View.{View}
+use Rattle.wholes.specs.Turns.{at}
+use Rattle.wholes.proofs.Joining.{Either, Sequel, AnyStart, AllStart}
+use Rattle.wholes.proofs.Placing.{Reaches}
+use Rattle.walk.specs.Seeing.{line, fitting, fittings, Parts}
+use Rattle.walk.proofs.sight.+walk.Given as goal
+
+abbrev pub decreases-Sight::any : goal.decreases-Sight::any
+decreases-Sight::any l = 5 * l.levels + 4
+
+abbrev pub decreases-Sight::concat : goal.decreases-Sight::concat
+decreases-Sight::concat l = 5 * l.levels + 4
+
+abbrev pub decreases-Sight::own_starts : goal.decreases-Sight::own_starts
+decreases-Sight::own_starts l = 5 * l.levels + 2
+
+abbrev pub decreases-Sight::part : goal.decreases-Sight::part
+decreases-Sight::part l = 5 * l.levels + 2
+
+abbrev pub decreases-Sight::repeat : goal.decreases-Sight::repeat
+decreases-Sight::repeat l = 5 * l.levels + 4
+
+abbrev pub decreases-Sight::seen : goal.decreases-Sight::seen
+decreases-Sight::seen l = 5 * l.levels
+
+abbrev pub decreases-Sight::starts : goal.decreases-Sight::starts
+decreases-Sight::starts l = 5 * l.levels + 3
+
+abbrev pub decreases-Sight::starts_from : goal.decreases-Sight::starts_from
+decreases-Sight::starts_from l = 5 * l.levels + 2
+
+abbrev pub decreases-Sight::window : goal.decreases-Sight::window
+decreases-Sight::window l = 5 * l.levels + 4
+
+abbrev pub decreases-Windows::all : goal.decreases-Windows::all
+decreases-Windows::all l = 5 * l.levels + 4
+
+abbrev pub decreases-Windows::counted : goal.decreases-Windows::counted
+decreases-Windows::counted l = 5 * l.levels + 4
+
+abbrev pub decreases-Windows::either : goal.decreases-Windows::either
+decreases-Windows::either l = 5 * l.levels + 4
+
+abbrev pub decreases-Windows::in_order : goal.decreases-Windows::in_order
+decreases-Windows::in_order l = 5 * l.levels + 4
+
+abbrev pub decreases-Windows::starts : goal.decreases-Windows::starts
+decreases-Windows::starts l = 5 * l.levels + 1
+
+abbrev pub invariant-Sight::any-loop-k : goal.invariant-Sight::any-loop-k
+invariant-Sight::any-loop-k l =
+    Parts l.self.walk l.levels Shape (l.parts - l.k) l.next
+    × Either (fittings l.self.walk l.parts l.first) (fittings l.self.walk (l.parts - l.k) l.next) l.self.view l.self.to (length (line l.self.walk)) l.out
+
+abbrev pub invariant-Sight::concat-loop-k : goal.invariant-Sight::concat-loop-k
+invariant-Sight::concat-loop-k l =
+    Parts l.self.walk l.levels Shape (l.parts - l.k) l.next
+    × ((v : View) →
+    Sequel (fittings l.self.walk l.parts l.first) (fittings l.self.walk (l.parts - 1) l.initial.next) v l.self.to (length (line l.self.walk)) l.initial.out →
+    Sequel (fittings l.self.walk l.parts l.first) (fittings l.self.walk (l.parts - l.k) l.next) v l.self.to (length (line l.self.walk)) l.out)
+
+-- the starts below a are found
+abbrev pub invariant-Sight::own_starts-loop-a : goal.invariant-Sight::own_starts-loop-a
+invariant-Sight::own_starts-loop-a l =
+    (x : ℕ) → Decides (member l.out x) ((x < l.a) × ((x + l.len ≤ l.self.to) × (fitting l.self.walk l.i x x (x + l.len) ≡ true)))
+
+abbrev pub invariant-Windows::all-loop-k : goal.invariant-Windows::all-loop-k
+invariant-Windows::all-loop-k l =
+    Parts l.self.walk l.levels Count (l.parts - l.k) l.next
+    × AllStart (fittings l.self.walk l.parts l.first) l.self.s l.self.len l.self.to (fittings l.self.walk (l.parts - l.k) l.next) (member l.out)
+
+abbrev pub invariant-Windows::either-loop-k : goal.invariant-Windows::either-loop-k
+invariant-Windows::either-loop-k l =
+    Parts l.self.walk l.levels Count (l.parts - l.k) l.next
+    × AnyStart (fittings l.self.walk l.parts l.first) l.self.s l.self.len l.self.to (fittings l.self.walk (l.parts - l.k) l.next) (member l.out)
+
+abbrev pub invariant-Windows::in_order-loop-k : goal.invariant-Windows::in_order-loop-k
+invariant-Windows::in_order-loop-k l =
+    Parts l.self.walk l.levels Shape (l.parts - l.k) l.next
+    × Reaches (fittings l.self.walk l.parts l.first) (fittings l.self.walk (l.parts - l.k) l.next) l.self.s l.self.to (at l.reach)

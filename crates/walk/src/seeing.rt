@@ -1,0 +1,156 @@
+//! Which stretches each record of a query fits.
+
+ghost use Rattle.std.specs.Prelude.{◌≡◌, ℕ, ◌+◌, ◌≤◌, true, length};
+ghost use Rattle.query.specs.declared.node.Role.TheVariants.{Shape, Window};
+ghost use Rattle.query.specs.Stands.{at};
+ghost use Rattle.shape.specs.Fits.{one_of, sequence};
+ghost use Rattle.wholes.specs.declared.view.View.TheVariants.{From, Own};
+ghost use Rattle.wholes.specs.Shows.{windowed, repeated, Starts};
+ghost use Rattle.walk.specs.Walk.{repeats, many_of as manyOf};
+ghost use Rattle.walk.specs.Seeing.{line, fitting, fittings, Query, Part, Parts, Seen};
+
+use crate::many::many_of;
+use crate::sight::{Sight, Windows};
+use ends::Ends;
+use query::Kind;
+use tables::Table;
+use wholes::View;
+
+impl<'a> Sight<'a> {
+    // What the part at record i fits: from what is kept where each stretch is seen from its own start, else by going down.
+    #[cycle(walk)]
+    fn part(&self, i: usize, levels: u8, out: &mut Table)
+        requires { Part self.now.walk levels Shape i }
+        ensures { Seen self.now out.new (fitting self.now.walk i) }
+    {
+        match self.view {
+            View::From(_) => self.seen(i, levels, out),
+            View::Own => *out = *self.walk.own(i),
+        }
+    }
+
+    /// What the query at record i fits.
+    #[cycle(walk)]
+    pub fn seen(&self, i: usize, levels: u8, out: &mut Table)
+        requires { Query self.now.walk levels Shape i }
+        ensures { Seen self.now out.new (fitting self.now.walk i) }
+    {
+        let node = self.walk.records[i];
+        match node.kind {
+            Kind::Symbol => *out = wholes::symbol(self.walk.steps, node.number, self.view, self.to),
+            Kind::Any => self.any(i + 1, node.parts, levels - 1, out),
+            Kind::Concat => self.concat(i + 1, node.parts, levels - 1, out),
+            Kind::In => self.window(i + 1, node.number, levels - 1, out),
+            _ => self.repeat(i, levels - 1, out),
+        }
+    }
+
+    // One of the parts.
+    #[cycle(walk)]
+    fn any(&self, first: usize, parts: u8, levels: u8, out: &mut Table)
+        requires { Parts self.now.walk levels Shape parts first }
+        ensures { Seen self.now out.new (one_of (fittings self.now.walk parts first)) }
+    {
+        *out = Table::empty();
+        let mut next = first;
+        for k in 0..parts {
+            let mut table = Table::empty();
+            self.part(next, levels, &mut table);
+            out.union_with(&table);
+            next = self.walk.after(next);
+        }
+    }
+
+    // The parts in sequence: the first as it is seen, each later one from its own start.
+    #[cycle(walk)]
+    fn concat(&self, first: usize, parts: u8, levels: u8, out: &mut Table)
+        requires stand { Parts self.now.walk levels Shape parts first }
+        requires some { 1 ≤ parts }
+        ensures { Seen self.now out.new (sequence (fittings self.now.walk parts first)) }
+    {
+        self.part(first, levels, out);
+        let mut next = self.walk.after(first);
+        for k in 1..parts {
+            *out = out.then(self.walk.own(next));
+            next = self.walk.after(next);
+        }
+    }
+
+    // The repeat at record i: its first piece as it is seen, and what may follow it.
+    #[cycle(walk)]
+    fn repeat(&self, i: usize, levels: u8, out: &mut Table)
+        requires repeats { repeats (at self.now.walk.records.now i).kind ≡ true }
+        requires stands { Part self.now.walk levels Shape (i + 1) }
+        ensures { Seen self.now out.new (repeated (length (line self.now.walk)) (fitting self.now.walk (i + 1)) (manyOf (at self.now.walk.records.now i).kind (at self.now.walk.records.now i).number)) }
+    {
+        let many = many_of(self.walk.records[i]);
+        let mut opening = Table::empty();
+        self.part(i + 1, levels, &mut opening);
+        let kept = &self.walk.kept.entries[i];
+        *out = wholes::repeat(&opening, &kept.later, &kept.stops, many, self.view, self.to);
+    }
+
+    // The windows of a length of which the condition at record i holds.
+    #[cycle(walk)]
+    fn window(&self, i: usize, len: u8, levels: u8, out: &mut Table)
+        requires { Part self.now.walk levels Window i }
+        ensures { Seen self.now out.new (windowed (fitting self.now.walk i) len) }
+    {
+        *out = wholes::shifted(&self.starts(i, len, levels), len, self.to);
+    }
+
+    // The starts of the windows of a length of which the condition at record i holds.
+    #[cycle(walk)]
+    fn starts(&self, i: usize, len: u8, levels: u8) -> Ends
+        requires { Part self.now.walk levels Window i }
+        ensures { Starts result (fitting self.now.walk i) self.now.view len self.now.to }
+    {
+        match self.view {
+            View::From(s) => self.starts_from(i, s, len, levels),
+            View::Own => self.own_starts(i, len, levels),
+        }
+    }
+
+    // These starts seen from s.
+    #[cycle(walk)]
+    fn starts_from(&self, i: usize, s: u8, len: u8, levels: u8) -> Ends
+        requires stands { Part self.now.walk levels Window i }
+        requires low { s ≤ self.now.to }
+        ensures { Starts result (fitting self.now.walk i) (From s) len self.now.to }
+    {
+        if len > self.to - s {
+            return Ends::empty();
+        }
+        let windows = Windows {
+            walk: self.walk,
+            s,
+            len,
+            to: self.to,
+        };
+        windows.starts(i, levels)
+    }
+
+    // These starts, each window seen from its own start.
+    #[cycle(walk)]
+    fn own_starts(&self, i: usize, len: u8, levels: u8) -> Ends
+        requires { Part self.now.walk levels Window i }
+        ensures { Starts result (fitting self.now.walk i) Own len self.now.to }
+    {
+        let mut out = Ends::empty();
+        if len > self.to {
+            return out;
+        }
+        for a in 0..=self.to - len {
+            let windows = Windows {
+                walk: self.walk,
+                s: a,
+                len,
+                to: a + len,
+            };
+            if windows.starts(i, levels).contains(a) {
+                out.insert(a);
+            }
+        }
+        out
+    }
+}
