@@ -1,6 +1,6 @@
 -- Going through records from whole to part: what is still to come is a row of queries.
 use Rattle.std.proofs.Common.{◌≡◌, ℕ, suc, ◌+◌, ◌-◌, ◌<◌, ◌≤◌, Bool, true, false, ◌&&◌, ◌||◌, eqb, List, [], ◌∷◌, ◌++◌, length, drop, sym, refl, ap, ◌∙◌, ap₂, append-nil, arith}
-use Rattle.std.proofs.lemmas.List.{length-append, length-drop, at_drop_more, at_drop_all}
+use Rattle.std.proofs.lemmas.List.{length-append, length-drop}
 use Rattle.std.proofs.lemmas.Bool.{and_parts, and_from, eqb-true, eqb-false}
 use Rattle.query.specs.declared.node.Kind.{Kind}
 use Rattle.query.specs.declared.node.Kind.TheVariants.{In}
@@ -11,7 +11,7 @@ use Rattle.query.specs.Stands.{blank, at}
 use Rattle.query.proofs.Standing.{drop_head}
 use Rattle.rules.specs.Applies.{windowed, windowed_each}
 use Rattle.rules.specs.Parts.{join}
-use Rattle.rules.specs.Places.{Here, Row, Stands, Stand, Ends, Compares, Equal, same_record, any_window}
+use Rattle.rules.specs.Places.{Here, Row, Stands, Stand, Ends, Compares, same_record, any_window}
 use Rattle.rules.proofs.Parts.{count_join, records_join, size_join, size_more, size_node}
 
 -- a row of one query is that query
@@ -200,19 +200,6 @@ match_end ns m i j left x y z w qs rs rest rest' c d h k = let v = w qs rs rest 
     go none (more v vs) c d e = absurd (omega arith)
     go (more u us) vs c d e = absurd (omega arith)
 
--- a row of one against a row of one
-pub one_stand : (ns : List Node) (i : ℕ) → Stands ns i → Stand ns 1 i
-one_stand ns i st = (more st.1 none, st.2, refl, one_row ns i st.1 st.2 st.3)
-
-pub one_compared : (ns : List Node) (i j : ℕ) (t : Bool) → Compares ns 1 i j t → Equal ns i j t
-unfolding alike
-one_compared ns i j t c q r rest rest' h h' =
-    c (more q none) (more r none) rest rest' refl refl (one_row ns i q rest h) (one_row ns j r rest' h') ∙ and_end (alike q r)
-  where
-    and_end : (x : Bool) → (x && true) ≡ x
-    and_end true = refl
-    and_end false = refl
-
 -- a window among the records
 
 window_append : (ns ms : List Node) → any_window (ns ++ ms) ≡ (any_window ns || any_window ms)
@@ -233,9 +220,3 @@ mutual
   window_records_each none = refl
   window_records_each (more q qs) =
       window_append (records q) (records_each qs) ∙ ap₂ (λ (t u : Bool). t || u) (window_records q) (window_records_each qs)
-
-pub window_step : (ns : List Node) (i : ℕ) → i < length ns → any_window (drop i ns) ≡ (same_kind (at ns i).kind In || any_window (drop (i + 1) ns))
-window_step ns i l = at_drop_more any_window ns i blank l
-
-pub window_end : (ns : List Node) (i : ℕ) → length ns ≤ i → any_window (drop i ns) ≡ false
-window_end ns i l = at_drop_all any_window ns i l

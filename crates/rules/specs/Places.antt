@@ -1,11 +1,12 @@
 -- Queries where they lie in a sheet of records. Assumes nothing.
 use Rattle.std.specs.Prelude.{◌≡◌, ℕ, ◌+◌, ◌<◌, ◌≤◌, Bool, true, false, ◌&&◌, ◌||◌, List, [], ◌∷◌, ◌++◌, length, drop, Some, None, Option, ◌==◌}
+use Rattle.std.specs.List.{list_any}
 use Rattle.query.specs.declared.node.Kind.TheVariants.{In}
 use Rattle.query.specs.declared.node.Node.{Node}
 use Rattle.query.specs.declared.node.Role.{Role}
 use Rattle.query.specs.declared.node.Stage.{Stage}
 use Rattle.query.specs.Kinds.{same_kind}
-use Rattle.query.specs.Tree.{Query, Queries, more, count, records, records_each, levels, alike, alike_each}
+use Rattle.query.specs.Tree.{Query, Queries, more, count, records, records_each, levels, alike_each}
 use Rattle.query.specs.Rules.{keeps}
 use Rattle.rules.specs.Applies.{some_part}
 use Rattle.rules.specs.Parts.{join}
@@ -16,8 +17,7 @@ same_record x y = same_kind x.kind y.kind && (x.number == y.number && x.parts ==
 
 -- one of the records is a window
 abbrev pub any_window : List Node → Bool
-any_window [] = false
-any_window (n ∷ ns) = same_kind n.kind In || any_window ns
+any_window = list_any (λ n. same_kind n.kind In)
 
 -- the query stands at index i, and the rest behind it
 abbrev pub Here : List Node → ℕ → Query → List Node → Type 0
@@ -54,10 +54,6 @@ abbrev pub Compares : List Node → ℕ → ℕ → ℕ → Bool → Type 0
 Compares ns m i j r =
     (qs rs : Queries) (rest rest' : List Node) → count qs ≡ m → count rs ≡ m → Row ns i qs rest → Row ns j rs rest' →
     r ≡ alike_each qs rs
-
--- whether the query at index i is equal to the query at index j
-abbrev pub Equal : List Node → ℕ → ℕ → Bool → Type 0
-Equal ns i j t = (q r : Query) (rest rest' : List Node) → Here ns i q rest → Here ns j r rest' → t ≡ alike q r
 
 -- where the first of the queries from index i on stands that passes a test
 abbrev pub FoundAt : (Query → Bool) → ℕ → Queries → Option ℕ → Type 0

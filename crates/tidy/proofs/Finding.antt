@@ -1,5 +1,5 @@
 -- The searches for parts, step by step.
-use Rattle.std.proofs.Common.{◌≡◌, ℕ, suc, ◌+◌, ◌-◌, ◌<◌, ◌≤◌, min, Bool, true, false, cond, ◌||◌, List, ◌++◌, length, drop, Some, None, sym, refl, ap, ◌∙◌, subst, ap₂, append-nil, arith}
+use Rattle.std.proofs.Common.{◌≡◌, ℕ, suc, ◌+◌, ◌-◌, ◌<◌, ◌≤◌, min, Bool, true, false, cond, ◌||◌, List, ◌++◌, length, drop, is_some, Some, None, Option, sym, refl, ap, ◌∙◌, subst, ap₂, append-nil, arith}
 use Rattle.query.specs.declared.node.Kind.{Kind}
 use Rattle.query.specs.declared.node.Kind.TheVariants.{Concat}
 use Rattle.query.specs.declared.node.Node.{Node}
@@ -14,7 +14,7 @@ use Rattle.rules.proofs.Walking.{alike_count}
 use Rattle.tidy.specs.declared.outcome.Outcome.{Outcome}
 use Rattle.tidy.specs.declared.wanted.Wanted.{Wanted}
 use Rattle.tidy.specs.declared.wanted.Wanted.TheVariants.{Like, Empty}
-use Rattle.tidy.specs.Outcomes.{become, of_pair, speaks, reach, first_of, within, some_joined}
+use Rattle.tidy.specs.Outcomes.{become, of_pair, reach, first_of, within, some_joined}
 use Rattle.tidy.specs.Searches.{wants, wants_record, PartsCompare, Judges, Pairs}
 
 -- a part is wanted just where its record says so
@@ -51,7 +51,7 @@ parts_compared ns x y t same c (node k n p l ps) (node k' n' p' l' ps') rest res
     c ps ps' rest rest' (sym (ap (λ (z : Node). z.parts) v.here)) (sym (ap (λ (z : Node). z.parts) v'.here) ∙ sym same) v.parts v'.parts
 
 -- what becomes of two parts, from their records
-pub judged : (ns : List Node) (whole : Kind) (x y : ℕ) (t : Bool) (o : Outcome) → PartsCompare ns x y t →
+pub judged : (ns : List Node) (whole : Kind) (x y : ℕ) (t : Bool) (o : Option Outcome) → PartsCompare ns x y t →
     o ≡ become whole (at ns x).kind (at ns x).number (at ns y).kind (at ns y).number t → Judges ns whole x y o
 judged ns whole x y t o c e (node k n p l ps) (node k' n' p' l' ps') rest rest' h h' =
     let v = whole_of ns x k n p l ps rest h in
@@ -59,9 +59,9 @@ judged ns whole x y t o c e (node k n p l ps) (node k' n' p' l' ps') rest rest' 
     e ∙ ap₂ (λ (a b : Node). become whole a.kind a.number b.kind b.number t) v.here v'.here
     ∙ ap (become whole k n k' n') (c (node k n p l ps) (node k' n' p' l' ps') rest rest' h h')
 
-pub spoken_here : (ns : List Node) (whole : Kind) (x y : ℕ) (o : Outcome) (t : Bool) → Judges ns whole x y o → t ≡ speaks o →
-    (q : Query) (rest : List Node) → Here ns x q rest → (r : Query) (rest' : List Node) → Here ns y r rest' → speaks (of_pair whole q r) ≡ t
-spoken_here ns whole x y o t j e q rest h r rest' h' = sym (e ∙ ap speaks (j q r rest rest' h h'))
+pub spoken_here : (ns : List Node) (whole : Kind) (x y : ℕ) (o : Option Outcome) (t : Bool) → Judges ns whole x y o → t ≡ is_some o →
+    (q : Query) (rest : List Node) → Here ns x q rest → (r : Query) (rest' : List Node) → Here ns y r rest' → is_some (of_pair whole q r) ≡ t
+spoken_here ns whole x y o t j e q rest h r rest' h' = sym (e ∙ ap is_some (j q r rest rest' h h'))
 
 -- the parts that may be joined with the one before them
 pub within_stand : (ns : List Node) (whole : Kind) (qs : Queries) (i : ℕ) (rest : List Node) → Row ns i qs rest →
@@ -105,7 +105,7 @@ module _ (whole : Kind) (ns : List Node) (m i k x next : ℕ) (w : Cursor (some_
       let c : count v.2 ≡ m - k - 1 = (let d = v.4 in omega arith) in
       (within whole v.2, b.0, b.1 ∙ ap (reach whole) c, b.2)
 
-  pub pair_found : (y : ℕ) → ((q : Query) (rest : List Node) → Here ns x q rest → Finds (λ t. speaks (of_pair whole q t)) ns (reach whole (m - k - 1)) next (Some y)) →
+  pub pair_found : (y : ℕ) → ((q : Query) (rest : List Node) → Here ns x q rest → Finds (λ t. is_some (of_pair whole q t)) ns (reach whole (m - k - 1)) next (Some y)) →
       Pairs whole ns m i (Some (x, y))
   pair_found y f qs rest c h =
       let v = cursor_next (some_joined whole) ns m i k x w l qs rest c h in
@@ -117,7 +117,7 @@ module _ (whole : Kind) (ns : List Node) (m i k x next : ℕ) (w : Cursor (some_
       let u = within_head whole v.2 g.0 g.2 g.1 g.3 in
       (v.0, v.1, g.0, g.1, u.0, v.3 ∙ ap (λ (ts : Queries). join v.0 (more v.1 ts)) u.1, g.4, v.6, g.5 ∙ ap (λ (z : ℕ). z + length (records_each g.0)) e, u.2)
 
-  pub pair_passed : ((q : Query) (rest : List Node) → Here ns x q rest → Finds (λ t. speaks (of_pair whole q t)) ns (reach whole (m - k - 1)) next None) →
+  pub pair_passed : ((q : Query) (rest : List Node) → Here ns x q rest → Finds (λ t. is_some (of_pair whole q t)) ns (reach whole (m - k - 1)) next None) →
       Cursor (some_joined whole) ns m i (k + 1) next
   unfolding some_joined
   pair_passed f =

@@ -1,5 +1,5 @@
 -- What the searches for parts find. Assumes nothing.
-use Rattle.std.specs.Prelude.{◌≡◌, ℕ, ◌+◌, Bool, true, false, ◌&&◌, List, length, Some, None, Option, ◌==◌}
+use Rattle.std.specs.Prelude.{◌≡◌, ℕ, ◌+◌, Bool, true, false, ◌&&◌, List, length, Some, None, Option, is_some, ◌==◌}
 use Rattle.query.specs.declared.node.Kind.{Kind}
 use Rattle.query.specs.declared.node.Kind.TheVariants.{Any, Concat}
 use Rattle.query.specs.declared.node.Node.{Node}
@@ -11,7 +11,7 @@ use Rattle.rules.specs.Places.{Here, Row}
 use Rattle.tidy.specs.declared.outcome.Outcome.{Outcome}
 use Rattle.tidy.specs.declared.wanted.Wanted.{Wanted}
 use Rattle.tidy.specs.declared.wanted.Wanted.TheVariants.{Like, Empty}
-use Rattle.tidy.specs.Outcomes.{of_pair, speaks, some_joined}
+use Rattle.tidy.specs.Outcomes.{of_pair, some_joined}
 
 -- the part is of a kind, or an `(any)` without parts
 abbrev pub wants : Wanted → Query → Bool
@@ -29,7 +29,7 @@ PartsCompare ns x y t =
     (q r : Query) (rest rest' : List Node) → Here ns x q rest → Here ns y r rest' → t ≡ alike_each (parts_of q) (parts_of r)
 
 -- what becomes of the two as parts of a whole
-abbrev pub Judges : List Node → Kind → ℕ → ℕ → Outcome → Type 0
+abbrev pub Judges : List Node → Kind → ℕ → ℕ → Option Outcome → Type 0
 Judges ns whole x y o = (q r : Query) (rest rest' : List Node) → Here ns x q rest → Here ns y r rest' → o ≡ of_pair whole q r
 
 -- where two parts stand that a rule joins, in a concat next to each other; or there are none
@@ -37,7 +37,7 @@ abbrev pub PairAt : Kind → ℕ → Queries → Option (ℕ × ℕ) → Type 0
 PairAt whole i qs None = some_joined whole qs ≡ false
 PairAt whole i qs (Some (x, y)) =
     (xs : Queries) × (q : Query) × (rs : Queries) × (r : Query) × (ts : Queries)
-    × (qs ≡ join xs (more q (join rs (more r ts)))) × (speaks (of_pair whole q r) ≡ true)
+    × (qs ≡ join xs (more q (join rs (more r ts)))) × (is_some (of_pair whole q r) ≡ true)
     × (x ≡ i + length (records_each xs)) × (y ≡ x + length (records q) + length (records_each rs)) × (whole ≡ Concat → rs ≡ none)
 
 abbrev pub Pairs : Kind → List Node → ℕ → ℕ → Option (ℕ × ℕ) → Type 0

@@ -10,9 +10,9 @@ ghost use Rattle.tidy.specs.Changes.{strict, Alone, Joining, Changes, nested_bec
 
 use crate::change::Change;
 use crate::outcome::Outcome;
-use crate::pairs::{is_repeat, is_unordered};
+use crate::pairs::is_unordered;
 use crate::search::{find_pair, find_part, pair_outcome};
-use crate::walk::{has_window, part_end, same_kind};
+use crate::walk::{has_window, part_end};
 use crate::wanted::Wanted;
 use query::{Kind, Node};
 
@@ -20,7 +20,7 @@ use query::{Kind, Node};
 fn is_gathering(kind: Kind) -> bool
     ensures { result ≡ gathers kind }
 {
-    same_kind(kind, Kind::Concat) || is_unordered(kind)
+    kind == Kind::Concat || is_unordered(kind)
 }
 
 // Whether the kind is exact or atleast.
@@ -37,18 +37,14 @@ fn joining_change(records: &[Node], i: usize) -> Option<Change>
     ensures { Joining records.now i result }
 {
     let node = records[i];
-    let Some((x, y)) = find_pair(records, node.kind, i + 1, node.parts) else {
-        return None;
-    };
-    match pair_outcome(records, node.kind, x, y) {
-        Outcome::Joined(kind, number) => Some(Change::Join {
-            earlier: x,
-            later: y,
-            kind,
-            number,
+    let (earlier, later) = find_pair(records, node.kind, i + 1, node.parts)?;
+    match pair_outcome(records, node.kind, earlier, later)? {
+        Outcome::Joined(head) => Some(Change::Join {
+            earlier,
+            later,
+            head,
         }),
         Outcome::Dead => Some(Change::Clear),
-        Outcome::Apart => None,
     }
 }
 
@@ -56,7 +52,7 @@ fn joining_change(records: &[Node], i: usize) -> Option<Change>
 fn clears(whole: Kind, empty: Option<usize>) -> bool
     ensures { result ≡ (sameKind whole Concat && is_some empty) }
 {
-    same_kind(whole, Kind::Concat) && empty.is_some()
+    whole == Kind::Concat && empty.is_some()
 }
 
 // What a rule makes of the any, concat, and, or at index i.
@@ -99,13 +95,11 @@ fn stands_alone(records: &[Node], i: usize) -> bool
 fn nested(number: u8, repeat: bool, alone: bool) -> Option<Change>
     ensures { result ≡ nested_become number repeat alone }
 {
-    if number > 1 && repeat {
-        return Some(Change::Clear);
+    match number {
+        0 => None,
+        1 => alone.then_some(Change::Lift),
+        _ => repeat.then_some(Change::Clear),
     }
-    if number == 1 && alone {
-        return Some(Change::Lift);
-    }
-    None
 }
 
 // What a rule makes of the exact or atleast at index i.
@@ -115,7 +109,7 @@ fn repeat_change(records: &[Node], i: usize) -> Option<Change>
     requires inner { Stands records.now (i + 1) }
     ensures { Changes records.now i result }
 {
-    let repeat = is_repeat(records[i + 1].kind);
+    let repeat = records[i + 1].kind.is_repeat();
     nested(records[i].number, repeat, stands_alone(records, i + 1))
 }
 

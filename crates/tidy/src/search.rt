@@ -1,15 +1,16 @@
 //! The search for parts that a rule speaks of.
 
-ghost use Rattle.std.specs.Prelude.{◌≡◌, ℕ, List};
+ghost use Rattle.std.specs.Prelude.{◌≡◌, ℕ, List, is_some};
 ghost use Rattle.query.specs.Tree.{Query};
 ghost use Rattle.query.specs.declared.node.Node.{Node as Record};
 ghost use Rattle.rules.specs.Places.{Here, Stands, Stand, Finds};
-ghost use Rattle.tidy.specs.Outcomes.{of_pair, speaks, reach as reaches};
+ghost use Rattle.tidy.specs.Outcomes.{of_pair, reach as reaches};
 ghost use Rattle.tidy.specs.Searches.{wants, wants_record, PartsCompare, Judges, Pairs};
 
+use crate::head::Head;
 use crate::outcome::Outcome;
 use crate::pairs::outcome;
-use crate::walk::{equal_rows, part_end, same_kind};
+use crate::walk::{equal_rows, part_end};
 use crate::wanted::Wanted;
 use query::{Kind, Node};
 
@@ -18,8 +19,8 @@ fn is_wanted(wanted: Wanted, node: Node) -> bool
     ensures { result ≡ wants_record wanted node }
 {
     match wanted {
-        Wanted::Like(kind) => same_kind(kind, node.kind),
-        Wanted::Empty => same_kind(node.kind, Kind::Any) && node.parts == 0,
+        Wanted::Like(kind) => kind == node.kind,
+        Wanted::Empty => node.kind == Kind::Any && node.parts == 0,
     }
 }
 
@@ -51,31 +52,39 @@ fn same_parts(records: &[Node], x: usize, y: usize) -> bool
     equal_rows(records, x + 1, y + 1, parts)
 }
 
-// What becomes of the two parts of a whole that stand at these indices.
-pub(crate) fn pair_outcome(records: &[Node], whole: Kind, x: usize, y: usize) -> Outcome
+// A record's kind and number.
+fn head(node: Node) -> Head
+    ensures { result ≡ record { kind = node.kind; number = node.number } }
+{
+    Head {
+        kind: node.kind,
+        number: node.number,
+    }
+}
+
+// What becomes of the two parts of a whole that stand at these indices, where a rule speaks of them.
+pub(crate) fn pair_outcome(records: &[Node], whole: Kind, x: usize, y: usize) -> Option<Outcome>
     requires first { Stands records.now x }
     requires second { Stands records.now y }
     ensures { Judges records.now whole x y result }
 {
-    outcome(whole, records[x], records[y], same_parts(records, x, y))
-}
-
-// Whether a rule speaks of two parts with this outcome.
-fn is_spoken(outcome: Outcome) -> bool
-    ensures { result ≡ speaks outcome }
-{
-    !matches!(outcome, Outcome::Apart)
+    outcome(
+        whole,
+        head(records[x]),
+        head(records[y]),
+        same_parts(records, x, y),
+    )
 }
 
 // The index of the first of so many parts that a rule joins with the one at index x.
 fn find_partner(records: &[Node], whole: Kind, x: usize, first: usize, parts: u8) -> Option<usize>
     requires earlier { Stands records.now x }
     requires stand { Stand records.now parts first }
-    ensures { (q : Query) (rest : List Record) → Here records.now x q rest → Finds (λ t. speaks (of_pair whole q t)) records.now parts first result }
+    ensures { (q : Query) (rest : List Record) → Here records.now x q rest → Finds (λ t. is_some (of_pair whole q t)) records.now parts first result }
 {
     let mut next = first;
     for k in 0..parts {
-        if is_spoken(pair_outcome(records, whole, x, next)) {
+        if pair_outcome(records, whole, x, next).is_some() {
             return Some(next);
         }
         next = part_end(records, next);

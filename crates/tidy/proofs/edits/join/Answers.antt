@@ -11,5 +11,5 @@ cut-requires c =
 
 pub returns : goal.returns
 returns c =
-    join_made c.args.sheet.now c.cut.new.sheet c.args.i c.args.x c.args.y c.part_end-end.result c.args.kind c.args.number
+    join_made c.args.sheet.now c.cut.new.sheet c.args.i c.args.x c.args.y c.part_end-end.result c.args.head
     c.part_end-end.ensures c.cut.ensures

@@ -1,7 +1,7 @@
-use Rattle.std.proofs.Common.{ℕ, Some, None, sym, subst}
+use Rattle.std.proofs.Common.{ℕ, is_some, Some, None, sym, subst}
 use Rattle.rules.specs.Places.{Stand, Finds}
 use Rattle.rules.proofs.Cursor.{cursor_start, cursor_stands}
-use Rattle.tidy.specs.Outcomes.{of_pair, speaks, some_joined}
+use Rattle.tidy.specs.Outcomes.{of_pair, some_joined}
 use Rattle.tidy.proofs.Finding.{behind_stands, pair_found, pair_passed, pair_missing}
 use Rattle.tidy.proofs.search.find_pair.Goals as goal
 
@@ -29,7 +29,7 @@ returns-in-Some c =
     pair_found c.args.whole c.args.records.now c.args.parts c.args.first c.loop-k.k c.loop-k.x c.part_end-next.result c.loop-k.invariant
     c.loop-k-test.true c.part_end-next.ensures c.in-Some.y
     (λ q rest h.
-    subst (λ (m : ℕ). Finds (λ t. speaks (of_pair c.args.whole q t)) c.args.records.now m c.part_end-next.result (Some c.in-Some.y)) c.reach.ensures
+    subst (λ (m : ℕ). Finds (λ t. is_some (of_pair c.args.whole q t)) c.args.records.now m c.part_end-next.result (Some c.in-Some.y)) c.reach.ensures
     (c.in-Some.ensures q rest h))
 
 pub loop-k-preserved : goal.loop-k-preserved
@@ -37,7 +37,7 @@ loop-k-preserved c =
     pair_passed c.args.whole c.args.records.now c.args.parts c.args.first c.loop-k.k c.loop-k.x c.part_end-next.result c.loop-k.invariant
     c.loop-k-test.true c.part_end-next.ensures
     (λ q rest h.
-    subst (λ (m : ℕ). Finds (λ t. speaks (of_pair c.args.whole q t)) c.args.records.now m c.part_end-next.result None) c.reach.ensures
+    subst (λ (m : ℕ). Finds (λ t. is_some (of_pair c.args.whole q t)) c.args.records.now m c.part_end-next.result None) c.reach.ensures
     (c.in_default.ensures q rest h))
 
 pub returns : goal.returns
