@@ -1,6 +1,6 @@
 -- Which change each rule asks for, and that no rule applies where none is asked for.
-use Rattle.std.proofs.Common.{◌≡◌, ℕ, ◌+◌, ◌-◌, ◌≤◌, Bool, true, false, cond, not, ◌&&◌, ◌||◌, eqb, ltb, List, ◌++◌, length, take, drop, is_some, Some, None, Option, sym, refl, ap, ◌∙◌, subst, ap₂, arith}
-use Rattle.std.proofs.lemmas.List.{take_at, length-append, length-drop}
+use Rattle.std.proofs.Common.{◌≡◌, ℕ, ◌+◌, ◌≤◌, Bool, true, false, cond, not, ◌&&◌, ◌||◌, eqb, ltb, List, ◌++◌, length, is_some, Some, None, Option, sym, refl, ap, ◌∙◌, subst, ap₂, arith}
+use Rattle.std.proofs.lemmas.List.{length-append, length-drop}
 use Rattle.std.proofs.lemmas.Bool.{and_parts, and_from, and_left, and_right, or_parts, or_from, cond-true, eqb-true, ne_eqb, ltb-true, false≢true, true≢false}
 use Rattle.query.specs.declared.node.Kind.{Kind}
 use Rattle.query.specs.declared.node.Kind.TheVariants.{Symbol, Any, Concat, Exact, Atleast, Atmost, In, Precisely, Noless, Nomore, And, Or, Inorder}
@@ -14,13 +14,15 @@ use Rattle.query.specs.Stands.{at}
 use Rattle.query.proofs.Alike.{same_kind_is}
 use Rattle.rules.specs.Applies.{kind_of, number_of, repeats, unordered, gathers, some_part, some_pair, some_next, over_one, empty, merges, windowed_each, stands_alone, applies_here}
 use Rattle.rules.specs.Parts.{join, merged_kind, merged_number, renamed}
-use Rattle.rules.specs.Places.{Here, Row, Stands, Kept, Ends, Finds, any_window}
+use Rattle.rules.specs.Places.{Here, Row, Stands, Ends, Finds, inner, any_window}
 use Rattle.rules.specs.Shorter.{Shorter}
 use Rattle.rules.proofs.Cases.{on_gathers, on_unordered}
-use Rattle.rules.proofs.Cursor.{whole_of, row_head, here_after, here_inside, part_of_row}
+use Rattle.rules.proofs.Cursor.{whole_of, row_head, here_after, part_of_row}
 use Rattle.rules.proofs.Parts.{size_node}
 use Rattle.rules.proofs.Shorter.{keeps_parts, unnest_shorter, double_shorter, neighbour_shorter, alternative_shorter, single_shorter, lift_shorter, dead_shorter, neighbours_shorter, nested_shorter}
 use Rattle.rules.proofs.Walking.{window_records_each}
+use Rattle.rules.proofs.Firsts.{inner_is}
+use Rattle.tidy.proofs.Finding.{judged}
 use Rattle.tidy.specs.declared.outcome.Outcome.{Outcome}
 use Rattle.tidy.specs.declared.outcome.Outcome.TheVariants.{Joined}
 use Rattle.tidy.specs.declared.head.Head.{Head}
@@ -28,12 +30,8 @@ use Rattle.tidy.specs.declared.change.Change.{Change}
 use Rattle.tidy.specs.declared.change.Change.TheVariants.{Lift, Clear, Unnest, Join}
 use Rattle.tidy.specs.declared.wanted.Wanted.TheVariants.{Like, Empty}
 use Rattle.tidy.specs.Outcomes.{joins_as, fits_nothing, repeats_become, of_pair, within, some_joined}
-use Rattle.tidy.specs.Searches.{wants, Judges, Pairs}
+use Rattle.tidy.specs.Searches.{wants, pair_at, Pairs}
 use Rattle.tidy.specs.Changes.{strict, Shortens, Joining, Changed, Changes, Alone, nested_become}
-
--- a kept query stands
-pub kept_stands : (ns : List Node) (i : ℕ) → Kept ns i → Stands ns i
-kept_stands ns i h = (h.0, h.3, h.4, h.6)
 
 -- one part and no more
 only_one : (ps : Queries) → count ps ≡ 1 → (q : Query) × (ps ≡ more q none)
@@ -198,28 +196,7 @@ dead_shorter' k n p l xs rs ts (node M m p₁ l₁ ps) (node M' m' p₂ l₂ ps'
         (λ _ e. absurd (alternative (merges M m M' m') e)) (λ _ e. absurd (apart e)) (λ _ e. absurd (apart e)) k g next e
 
 module _ (ns : List Node) (i x y : ℕ) (g : gathers (at ns i).kind ≡ true) (f : Pairs (at ns i).kind ns (at ns i).parts (i + 1) (Some (x, y))) where
-  -- both of the two stand where they were found
-  pub pair_stands : Stands ns i → Stands ns x × Stands ns y
-  pair_stands st = go st.1 st.3
-    where
-      go : (q : Query) → Here ns i q st.2 → Stands ns x × Stands ns y
-      go (node k n p l ps) h =
-          let v = whole_of ns i k n p l ps st.2 h in
-          let u = f ps st.2 (sym (ap (λ (z : Node). z.parts) v.here)) v.parts in
-          let row = subst (λ (qs : Queries). Row ns (i + 1) qs st.2) u.5 v.parts in
-          let at_x = part_of_row u.0 (more u.1 (join u.2 (more u.3 u.4))) ns (i + 1) st.2 row in
-          let here-x = row_head ns (i + 1 + length (records_each u.0)) u.1 (join u.2 (more u.3 u.4)) st.2 at_x in
-          let at_y = part_of_row u.2 (more u.3 u.4) ns (i + 1 + length (records_each u.0) + length (records u.1)) st.2
-          (here_after ns (i + 1 + length (records_each u.0)) u.1 (records_each (join u.2 (more u.3 u.4)) ++ st.2) here-x) in
-          let here-y = row_head ns (i + 1 + length (records_each u.0) + length (records u.1) + length (records_each u.2)) u.3 u.4 st.2 at_y in
-          let x-is : i + 1 + length (records_each u.0) ≡ x = sym u.7 in
-          let y-is : i + 1 + length (records_each u.0) + length (records u.1) + length (records_each u.2) ≡ y =
-          ap (λ (z : ℕ). z + length (records u.1) + length (records_each u.2)) x-is ∙ sym u.8 in (
-            subst (Stands ns) x-is (here_inside ns _ u.1 _ here-x, u.1, records_each (join u.2 (more u.3 u.4)) ++ st.2, here-x),
-            subst (Stands ns) y-is (here_inside ns _ u.3 _ here-y, u.3, records_each u.4 ++ st.2, here-y),
-          )
-
-  module _ (o : Option Outcome) (j : Judges ns (at ns i).kind x y o) where
+  module _ (o : Option Outcome) (e : o ≡ pair_at (at ns i).kind (ns, x) (ns, y)) where
     -- the two, and what becomes of them
     found : (k : Kind) (n p l : ℕ) (ps : Queries) (rest : List Node) → Here ns i (node k n p l ps) rest →
         (xs : Queries) × (q : Query) × (rs : Queries) × (r : Query) × (ts : Queries)
@@ -240,7 +217,7 @@ module _ (ns : List Node) (i x y : ℕ) (g : gathers (at ns i).kind ≡ true) (f
         let y-is : i + 1 + length (records_each u.0) + length (records u.1) + length (records_each u.2) ≡ y =
         ap (λ (z : ℕ). z + length (records u.1) + length (records_each u.2)) x-is ∙ sym u.8 in
         let o_is : o ≡ of_pair (at ns i).kind u.1 u.3 =
-        j u.1 u.3 (records_each tail-x ++ rest) (records_each u.4 ++ rest)
+        e ∙ judged (at ns i).kind ns ns x y u.1 u.3 (records_each tail-x ++ rest) (records_each u.4 ++ rest)
         (subst (λ (z : ℕ). Here ns z u.1 (records_each tail-x ++ rest)) x-is here-x) (subst (λ (z : ℕ). Here ns z u.3 (records_each u.4 ++ rest)) y-is here-y) in (
           u.0,
           u.1,
@@ -398,30 +375,21 @@ strict_one And m e h = absurd (false≢true e)
 strict_one Or m e h = absurd (false≢true e)
 strict_one Inorder m e h = absurd (false≢true e)
 
--- the only part of an exact or atleast
-pub inner_stands : (ns : List Node) (i : ℕ) → strict (at ns i).kind ≡ true → Kept ns i → Stands ns (i + 1)
-inner_stands ns i g kt = go kt.3 kt.5 kt.6
-  where
-    go : (q : Query) → keeps kt.1 kt.2 q ≡ true → Here ns i q kt.4 → Stands ns (i + 1)
-    go (node k n p l ps) kept h =
-        let v = whole_of ns i k n p l ps kt.4 h in
-        let a = keeps_parts kt.1 kt.2 k n p l ps kept in
-        let q = only_one ps (strict_one k (count ps) (sym (ap (λ (z : Node). strict z.kind) v.here) ∙ g) a.parts) in
-        let row = subst (λ (qs : Queries). Row ns (i + 1) qs kt.4) q.1 v.parts in
-        let here = row_head ns (i + 1) q.0 none kt.4 row in
-        (here_inside ns (i + 1) q.0 _ here, q.0, records_each none ++ kt.4, here)
+-- an exact or atleast has a part
+pub no_inner : (ns : List Node) (i : ℕ) → strict (at ns i).kind ≡ true → (at ns i).parts ≡ 0 → (r : Option Change) → Changes ns i r
+no_inner ns i g z r s o (node k n p l ps) rest kept h =
+    let v = whole_of ns i k n p l ps rest h in
+    let a = keeps_parts s o k n p l ps kept in
+    let one = strict_one k (count ps) (sym (ap (λ (x : Node). strict x.kind) v.here) ∙ g) a.parts in
+    let many : (at ns i).parts ≡ count ps = ap (λ (x : Node). x.parts) v.here in
+    absurd (omega arith)
 
 -- whether a query stands alone, from its record and whether there is a window in it
-pub alone_here : (ns : List Node) (i end : ℕ) (w t : Bool) → Ends ns i end → w ≡ any_window (take (end - (i + 1)) (drop (i + 1) ns)) →
+pub alone_here : (ns : List Node) (i : ℕ) (w t : Bool) → w ≡ any_window (inner ns i) →
     t ≡ (strict (at ns i).kind && (ltb 0 (at ns i).number && not w)) → Alone ns i t
-alone_here ns i end w t ends window e (node k n p l ps) rest h =
+alone_here ns i w t window e (node k n p l ps) rest h =
     let v = whole_of ns i k n p l ps rest h in
-    let size = size_node k n p l ps in
-    let z = ends (node k n p l ps) rest h in
-    let many : end - (i + 1) ≡ length (records_each ps) = omega arith in
-    let inside : w ≡ windowed_each ps =
-    window ∙ ap₂ (λ (m : ℕ) (xs : List Node). any_window (take m xs)) many v.parts ∙ ap any_window (take_at (records_each ps) rest (length (records_each ps)) refl)
-    ∙ window_records_each ps in
+    let inside : w ≡ windowed_each ps = window ∙ ap any_window (inner_is ns i k n p l ps rest h) ∙ window_records_each ps in
     e ∙ ap₂ (λ (x : Node) (u : Bool). strict x.kind && (ltb 0 x.number && not u)) v.here inside
 
 -- the records of a query end inside the sheet

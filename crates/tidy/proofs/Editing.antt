@@ -1,6 +1,6 @@
 -- Records cut out of a sheet, and what a change of records makes of the query that they are.
 use Rattle.std.proofs.Common.{◌≡◌, ℕ, suc, ◌+◌, ◌-◌, ◌<◌, ◌≤◌, List, [], ◌∷◌, ◌++◌, length, take, drop, set, replicate, sym, refl, ap, ◌∙◌, subst, ap₂, append_assoc, append-nil, arith}
-use Rattle.std.proofs.lemmas.List.{length-append, length-drop, length-take-le, length-replicate, take-append-drop, take_all, drop_all, take_at, drop_at, set_at}
+use Rattle.std.proofs.lemmas.List.{length-append, length-drop, length-take-le, take-append-drop, take_all, drop_all, take_at, drop_at, set_at}
 use Rattle.std.specs.List.{copy_within}
 use Rattle.std.proofs.lemmas.List.Edits.{take-paste}
 use borrow.Rule.Slice.PartMut.{put_mid, mid_of, post_of}
@@ -18,17 +18,6 @@ use Rattle.tidy.specs.declared.head.Head.{Head}
 use Rattle.tidy.specs.declared.change.Change.TheVariants.{Lift, Clear, Unnest, Join}
 use Rattle.tidy.specs.Changes.{Joins}
 use Rattle.tidy.specs.Edits.{cut_out, replaced, Makeable, Made}
-
--- Cutting, record by record
-
-pub cut_length : (ns : List Node) (from to : ℕ) → from ≤ to → to ≤ length ns → length (cut_out ns from to) ≡ length ns
-cut_length ns from to l u =
-    let a = length-append (take from ns) (drop to ns ++ replicate (to - from) blank) in
-    let b = length-append (drop to ns) (replicate (to - from) blank) in
-    let c = length-take-le from ns (omega arith) in
-    let d = length-drop to ns in
-    let e = length-replicate (to - from) blank in
-    omega arith
 
 -- what is left once those behind have been copied down and the end has been filled
 pub cut_copied : (ns moved filled : List Node) (from to : ℕ) {x : Node} → from ≤ to → to ≤ length ns → length moved ≡ length ns →

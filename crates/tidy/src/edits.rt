@@ -8,7 +8,7 @@ ghost use Rattle.tidy.specs.Edits.{cut_out, Makeable, Made};
 
 use crate::change::Change;
 use crate::head::Head;
-use crate::walk::part_end;
+use crate::part::Part;
 use query::{Kind, Node};
 
 // The records from one index up to another go, those behind them move up, and blanks fill the end.
@@ -35,7 +35,11 @@ fn clear(sheet: &mut [Node], i: usize)
     requires stands { Stands sheet.old i }
     ensures { Made sheet.old i Clear sheet.new }
 {
-    let end = part_end(sheet, i);
+    let part = Part {
+        records: sheet,
+        at: i,
+    };
+    let end = part.end();
     let node = sheet[i];
     sheet[i] = Node {
         kind: Kind::Any,
@@ -68,7 +72,11 @@ fn join(sheet: &mut [Node], i: usize, x: usize, y: usize, head: Head)
     requires some { 1 ≤ (recordAt sheet.old i).parts }
     ensures { Made sheet.old i (Join x y head) sheet.new }
 {
-    let end = part_end(sheet, y);
+    let part = Part {
+        records: sheet,
+        at: y,
+    };
+    let end = part.end();
     let (node, earlier) = (sheet[i], sheet[x]);
     let parts = node.parts - 1;
     sheet[i] = Node { parts, ..node };

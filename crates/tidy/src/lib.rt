@@ -16,6 +16,7 @@ mod fault;
 mod head;
 mod outcome;
 mod pairs;
+mod part;
 mod rule;
 mod search;
 mod settle;
