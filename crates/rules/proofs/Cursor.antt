@@ -1,16 +1,15 @@
 -- Going through a row of queries one by one, while what is looked for in those left is what is looked for in all.
-use Rattle.std.proofs.Common.{◌≡◌, ℕ, ◌+◌, ◌-◌, ◌<◌, ◌≤◌, Bool, true, false, ◌||◌, List, ◌++◌, length, drop, Some, None, sym, refl, ap, ◌∙◌, append_assoc, arith}
+use Rattle.std.proofs.Common.{◌≡◌, ℕ, ◌+◌, ◌-◌, ◌<◌, ◌≤◌, Bool, false, List, ◌++◌, length, drop, sym, refl, ap, ◌∙◌, append_assoc, arith}
 use Rattle.std.proofs.lemmas.List.{drop-drop, drop_at}
 use Rattle.query.specs.declared.node.Kind.{Kind}
 use Rattle.query.specs.declared.node.Node.{Node}
 use Rattle.query.specs.Tree.{Query, node, Queries, none, more, count, records, records_each}
 use Rattle.query.specs.Stands.{at}
 use Rattle.query.proofs.Standing.{drop_head}
-use Rattle.rules.specs.Applies.{some_part}
 use Rattle.rules.specs.Parts.{join}
-use Rattle.rules.specs.Places.{Here, Row, Stands, Stand, Ends, Finds}
+use Rattle.rules.specs.Places.{Here, Row, Ends}
 use Rattle.rules.proofs.Parts.{size_join, size_more}
-use Rattle.rules.proofs.Walking.{none_long, row_long, row_inside}
+use Rattle.rules.proofs.Walking.{none_long}
 
 pub join_none : (qs : Queries) → join qs none ≡ qs
 join_none none = refl
@@ -33,12 +32,6 @@ row_from ns i q qs rest h = h ∙ sym (append_assoc (records q) (records_each qs
 pub here_after : (ns : List Node) (i : ℕ) (q : Query) (rest : List Node) → Here ns i q rest → drop (i + length (records q)) ns ≡ rest
 here_after ns i q rest h =
     sym (drop-drop (length (records q)) i ns) ∙ ap (drop (length (records q))) h ∙ drop_at (records q) rest (length (records q)) refl
-
--- what stands behind a row
-pub row_after : (ns : List Node) (i : ℕ) (qs : Queries) (rest : List Node) → Row ns i qs rest → drop (i + length (records_each qs)) ns ≡ rest
-row_after ns i qs rest h =
-    sym (drop-drop (length (records_each qs)) i ns) ∙ ap (drop (length (records_each qs))) h
-    ∙ drop_at (records_each qs) rest (length (records_each qs)) refl
 
 -- the record of a query, and the row of its parts
 pub record Whole (ns : List Node) (i : ℕ) (k : Kind) (n p l : ℕ) (ps : Queries) (rest : List Node) : Type 0 where
@@ -131,21 +124,6 @@ module _ (F : Queries → Bool) (ns : List Node) (m i : ℕ) where
         × (next ≡ i + length (records_each xs)) × (F (more q ts) ≡ F qs)
     cursor_next l qs rest c h = passed_next F ns m i qs rest k next (w qs rest c h) l
 
-    pub cursor_stands : k < m → Stand ns m i → Stands ns next
-    cursor_stands l st =
-        let v = cursor_next l st.0 st.1 st.2 st.3 in
-        let h = row_head ns next v.1 v.2 st.1 v.5 in
-        (here_inside ns next v.1 (records_each v.2 ++ st.1) h, v.1, records_each v.2 ++ st.1, h)
-
-    -- there are records for all that are left
-    pub cursor_room : Stand ns m i → m - k ≤ length ns - next
-    cursor_room st =
-        let v = w st.0 st.1 st.2 st.3 in
-        let a = row_inside ns next v.1 st.1 v.4 in
-        let b = row_long v.1 in
-        let c = v.3 in
-        omega arith
-
     pub cursor_more : (after : ℕ) → k < m → Ends ns next after →
         ((q : Query) (ts : Queries) (rest : List Node) → count ts ≡ m - (k + 1) → Row ns next (more q ts) rest → F (more q ts) ≡ F ts) →
         Cursor F ns m i (k + 1) after
@@ -155,21 +133,3 @@ module _ (F : Queries → Bool) (ns : List Node) (m i : ℕ) where
 
     pub cursor_end : m ≤ k → F none ≡ false → (qs : Queries) (rest : List Node) → count qs ≡ m → Row ns i qs rest → F qs ≡ false
     cursor_end l z qs rest c h = (passed_end F ns m i qs rest k next (w qs rest c h) l z).0
-
--- looking for a part that passes a test
-module _ (test : Query → Bool) (ns : List Node) (m i k next : ℕ) (w : Cursor (some_part test) ns m i k next) where
-  pub part_passed : (after : ℕ) → k < m → Ends ns next after → ((q : Query) (rest : List Node) → Here ns next q rest → test q ≡ false) →
-      Cursor (some_part test) ns m i (k + 1) after
-  unfolding some_part
-  part_passed after l ends fails =
-      cursor_more (some_part test) ns m i k next w after l ends
-      (λ q ts rest c h. ap (λ (t : Bool). t || some_part test ts) (fails q (records_each ts ++ rest) (row_head ns next q ts rest h)))
-
-  pub part_found : k < m → ((q : Query) (rest : List Node) → Here ns next q rest → test q ≡ true) → Finds test ns m i (Some next)
-  part_found l passes qs rest c h =
-      let v = cursor_next (some_part test) ns m i k next w l qs rest c h in
-      (v.0, v.1, v.2, v.3, passes v.1 (records_each v.2 ++ rest) (row_head ns next v.1 v.2 rest v.5), v.6)
-
-  pub part_missing : m ≤ k → Finds test ns m i None
-  unfolding some_part
-  part_missing l qs rest c h = cursor_end (some_part test) ns m i k next w l refl qs rest c h

@@ -11,3 +11,4 @@ pub mod Sound
 pub mod Shorter
 pub mod Walking
 pub mod Cursor
+pub mod Firsts

@@ -1,12 +1,14 @@
 -- Queries where they lie in a sheet of records. Assumes nothing.
-use Rattle.std.specs.Prelude.{◌≡◌, ℕ, ◌+◌, ◌<◌, ◌≤◌, Bool, true, false, ◌&&◌, ◌||◌, List, [], ◌∷◌, ◌++◌, length, drop, Some, None, Option, ◌==◌}
+use Rattle.std.specs.Prelude.{◌≡◌, ℕ, zero, suc, ◌+◌, ◌<◌, ◌≤◌, Bool, true, false, ◌&&◌, List, [], ◌∷◌, ◌++◌, length, take, drop, Some, None, Option, ◌==◌}
+use Rattle.std.specs.List.{list_any, list_all, zip}
 use Rattle.query.specs.declared.node.Kind.TheVariants.{In}
 use Rattle.query.specs.declared.node.Node.{Node}
 use Rattle.query.specs.declared.node.Role.{Role}
 use Rattle.query.specs.declared.node.Stage.{Stage}
 use Rattle.query.specs.Kinds.{same_kind}
-use Rattle.query.specs.Tree.{Query, Queries, more, count, records, records_each, levels, alike, alike_each}
+use Rattle.query.specs.Tree.{Query, Queries, more, count, records, records_each, levels}
 use Rattle.query.specs.Rules.{keeps}
+use Rattle.query.specs.Stands.{at}
 use Rattle.rules.specs.Applies.{some_part}
 use Rattle.rules.specs.Parts.{join}
 
@@ -16,8 +18,7 @@ same_record x y = same_kind x.kind y.kind && (x.number == y.number && x.parts ==
 
 -- one of the records is a window
 abbrev pub any_window : List Node → Bool
-any_window [] = false
-any_window (n ∷ ns) = same_kind n.kind In || any_window ns
+any_window = list_any (λ n. same_kind n.kind In)
 
 -- the query stands at index i, and the rest behind it
 abbrev pub Here : List Node → ℕ → Query → List Node → Type 0
@@ -31,15 +32,7 @@ Row ns i qs rest = drop i ns ≡ records_each qs ++ rest
 abbrev pub Stands : List Node → ℕ → Type 0
 Stands ns i = (i < length ns) × (q : Query) × (rest : List Node) × Here ns i q rest
 
--- m queries stand one after another from index i on
-abbrev pub Stand : List Node → ℕ → ℕ → Type 0
-Stand ns m i = (qs : Queries) × (rest : List Node) × (count qs ≡ m) × Row ns i qs rest
-
--- a query that keeps the rules stands at index i
-abbrev pub Kept : List Node → ℕ → Type 0
-Kept ns i = (i < length ns) × (s : Stage) × (o : Role) × (q : Query) × (rest : List Node) × (keeps s o q ≡ true) × Here ns i q rest
-
--- it has no more than so many levels, and 64 records at most
+-- a query that keeps the rules stands at index i, of no more than so many levels and 64 records at most
 abbrev pub KeptWithin : ℕ → List Node → ℕ → Type 0
 KeptWithin d ns i =
     (i < length ns) × (s : Stage) × (o : Role) × (q : Query) × (rest : List Node)
@@ -48,16 +41,6 @@ KeptWithin d ns i =
 -- j is the index after the query that stands at index i
 abbrev pub Ends : List Node → ℕ → ℕ → Type 0
 Ends ns i j = (q : Query) (rest : List Node) → Here ns i q rest → j ≡ i + length (records q)
-
--- whether the m queries from index i on are equal to the m from index j on
-abbrev pub Compares : List Node → ℕ → ℕ → ℕ → Bool → Type 0
-Compares ns m i j r =
-    (qs rs : Queries) (rest rest' : List Node) → count qs ≡ m → count rs ≡ m → Row ns i qs rest → Row ns j rs rest' →
-    r ≡ alike_each qs rs
-
--- whether the query at index i is equal to the query at index j
-abbrev pub Equal : List Node → ℕ → ℕ → Bool → Type 0
-Equal ns i j t = (q r : Query) (rest rest' : List Node) → Here ns i q rest → Here ns j r rest' → t ≡ alike q r
 
 -- where the first of the queries from index i on stands that passes a test
 abbrev pub FoundAt : (Query → Bool) → ℕ → Queries → Option ℕ → Type 0
@@ -68,3 +51,28 @@ FoundAt test i qs (Some j) =
 -- the same of the m queries that stand there
 abbrev pub Finds : (Query → Bool) → List Node → ℕ → ℕ → Option ℕ → Type 0
 Finds test ns m i r = (qs : Queries) (rest : List Node) → count qs ≡ m → Row ns i qs rest → FoundAt test i qs r
+
+-- whether m queries stand one after another at the head of the records, by the counts of parts alone
+unfoldable pub stand_first : ℕ → List Node → Bool
+stand_first zero ns = true
+stand_first (suc m) [] = false
+stand_first (suc m) (n ∷ ns) = stand_first (n.parts + m) ns
+
+-- how many records they take up
+unfoldable pub size_first : ℕ → List Node → ℕ
+size_first zero ns = 0
+size_first (suc m) [] = 0
+size_first (suc m) (n ∷ ns) = suc (size_first (n.parts + m) ns)
+
+-- the records of the parts of the query that stands at index i
+abbrev pub inner : List Node → ℕ → List Node
+inner ns i = take (size_first (at ns i).parts (drop (i + 1) ns)) (drop (i + 1) ns)
+
+-- where m queries stand, the first at index i
+unfoldable pub places : ℕ → List Node → ℕ → List (List Node × ℕ)
+places zero ns i = []
+places (suc m) ns i = (ns, i) ∷ places m ns (i + size_first 1 (drop i ns))
+
+-- whether the queries that stand at two indices have equal parts, record by record
+abbrev pub same_inner : List Node → ℕ → List Node → ℕ → Bool
+same_inner ns i ms j = (at ns i).parts == (at ms j).parts && list_all (λ p. same_record p.0 p.1) (zip (inner ns i) (inner ms j))

@@ -1,6 +1,6 @@
 -- Which change each rule asks for, and that no rule applies where none is asked for.
-use Rattle.std.proofs.Common.{◌≡◌, ℕ, ◌+◌, ◌-◌, ◌≤◌, Bool, true, false, cond, not, ◌&&◌, ◌||◌, eqb, ltb, List, ◌++◌, length, take, drop, is_some, Some, None, Option, sym, refl, ap, ◌∙◌, subst, ap₂, arith}
-use Rattle.std.proofs.lemmas.List.{take_at, length-append, length-drop}
+use Rattle.std.proofs.Common.{◌≡◌, ℕ, ◌+◌, ◌≤◌, Bool, true, false, cond, not, ◌&&◌, ◌||◌, eqb, ltb, List, ◌++◌, length, is_some, Some, None, Option, sym, refl, ap, ◌∙◌, subst, ap₂, arith}
+use Rattle.std.proofs.lemmas.List.{length-append, length-drop}
 use Rattle.std.proofs.lemmas.Bool.{and_parts, and_from, and_left, and_right, or_parts, or_from, cond-true, eqb-true, ne_eqb, ltb-true, false≢true, true≢false}
 use Rattle.query.specs.declared.node.Kind.{Kind}
 use Rattle.query.specs.declared.node.Kind.TheVariants.{Symbol, Any, Concat, Exact, Atleast, Atmost, In, Precisely, Noless, Nomore, And, Or, Inorder}
@@ -14,25 +14,24 @@ use Rattle.query.specs.Stands.{at}
 use Rattle.query.proofs.Alike.{same_kind_is}
 use Rattle.rules.specs.Applies.{kind_of, number_of, repeats, unordered, gathers, some_part, some_pair, some_next, over_one, empty, merges, windowed_each, stands_alone, applies_here}
 use Rattle.rules.specs.Parts.{join, merged_kind, merged_number, renamed}
-use Rattle.rules.specs.Places.{Here, Row, Stands, Kept, Ends, Finds, any_window}
+use Rattle.rules.specs.Places.{Here, Row, Stands, Ends, Finds, inner, any_window}
 use Rattle.rules.specs.Shorter.{Shorter}
 use Rattle.rules.proofs.Cases.{on_gathers, on_unordered}
-use Rattle.rules.proofs.Cursor.{whole_of, row_head, here_after, here_inside, part_of_row}
+use Rattle.rules.proofs.Cursor.{whole_of, row_head, here_after, part_of_row}
 use Rattle.rules.proofs.Parts.{size_node}
 use Rattle.rules.proofs.Shorter.{keeps_parts, unnest_shorter, double_shorter, neighbour_shorter, alternative_shorter, single_shorter, lift_shorter, dead_shorter, neighbours_shorter, nested_shorter}
 use Rattle.rules.proofs.Walking.{window_records_each}
+use Rattle.rules.proofs.Firsts.{inner_is}
+use Rattle.tidy.proofs.Finding.{judged}
 use Rattle.tidy.specs.declared.outcome.Outcome.{Outcome}
-use Rattle.tidy.specs.declared.outcome.Outcome.TheVariants.{Apart, Joined, Dead}
+use Rattle.tidy.specs.declared.outcome.Outcome.TheVariants.{Joined}
+use Rattle.tidy.specs.declared.head.Head.{Head}
 use Rattle.tidy.specs.declared.change.Change.{Change}
 use Rattle.tidy.specs.declared.change.Change.TheVariants.{Lift, Clear, Unnest, Join}
 use Rattle.tidy.specs.declared.wanted.Wanted.TheVariants.{Like, Empty}
-use Rattle.tidy.specs.Outcomes.{repeats_become, of_pair, speaks, within, some_joined}
-use Rattle.tidy.specs.Searches.{wants, Judges, Pairs}
+use Rattle.tidy.specs.Outcomes.{joins_as, fits_nothing, repeats_become, of_pair, within, some_joined}
+use Rattle.tidy.specs.Searches.{wants, pair_at, Pairs}
 use Rattle.tidy.specs.Changes.{strict, Shortens, Joining, Changed, Changes, Alone, nested_become}
-
--- a kept query stands
-pub kept_stands : (ns : List Node) (i : ℕ) → Kept ns i → Stands ns i
-kept_stands ns i h = (h.0, h.3, h.4, h.6)
 
 -- one part and no more
 only_one : (ps : Queries) → count ps ≡ 1 → (q : Query) × (ps ≡ more q none)
@@ -72,7 +71,7 @@ unnest_change ns i j g f s o (node k n p l ps) rest kept h =
               (unnest_shorter k n p l m p' l' xs rs ts s o g (subst (λ (qs : Queries). keeps s o (node k n p l qs) ≡ true) e' kept)),
         )
 
--- Dead sequence
+-- fits_nothing sequence
 
 pub dead_change : (ns : List Node) (i j : ℕ) → same_kind (at ns i).kind Concat ≡ true → Finds (wants Empty) ns (at ns i).parts (i + 1) (Some j) → Changes ns i (Some Clear)
 dead_change ns i j g f s o (node k n p l ps) rest kept h =
@@ -98,12 +97,12 @@ not_cleared ns i (Some j) e f g = absurd (false≢true (e ∙ ap (λ (t : Bool).
 
 -- Two parts
 
-no_outcome : (o : Outcome) → o ≡ Apart → speaks o ≡ true → ⊥
-no_outcome o e s = false≢true (sym (ap speaks e) ∙ s)
+no_outcome : (o : Option Outcome) → o ≡ None → is_some o ≡ true → ⊥
+no_outcome o e s = false≢true (sym (ap is_some e) ∙ s)
 
--- what Joined says of two parts of a whole that gathers
+-- what `joins_as` says of two parts of a whole that gathers
 joined_shorter : (k : Kind) (n p l : ℕ) (xs rs ts : Queries) (q r : Query) (K : Kind) (N : ℕ) → gathers k ≡ true → (k ≡ Concat → rs ≡ none) →
-    of_pair k q r ≡ Joined K N →
+    of_pair k q r ≡ joins_as K N →
     Shorter (node k n p l (join xs (more q (join rs (more r ts))))) (node k n p l (join xs (more (renamed q K N) (join rs ts))))
 unfolding alike
 joined_shorter k n p l xs rs ts (node M m p₁ l₁ ps) (node M' m' p₂ l₂ ps') K N g next e =
@@ -118,30 +117,32 @@ joined_shorter k n p l xs rs ts (node M m p₁ l₁ ps) (node M' m' p₂ l₂ ps
     Result : Kind → Queries → Kind → ℕ → Type 0
     Result k rs K N = Shorter (node k n p l (join xs (more q (join rs (more r ts))))) (node k n p l (join xs (more (node K N p₁ l₁ ps) (join rs ts))))
 
-    apart : ◌≡◌ {A = Outcome} Apart (Joined K N) → ⊥
+    apart : ◌≡◌ {A = Option Outcome} None (joins_as K N) → ⊥
     apart e = let z : ◌≡◌ {A = ℕ} 0 1 = cc in omega arith
 
-    dead : ◌≡◌ {A = Outcome} Dead (Joined K N) → ⊥
+    dead : ◌≡◌ {A = Option Outcome} fits_nothing (joins_as K N) → ⊥
     dead e = let z : ◌≡◌ {A = ℕ} 0 1 = cc in omega arith
 
-    same_k : (a b : Kind) (c d : ℕ) → ◌≡◌ {A = Outcome} (Joined a c) (Joined b d) → (a ≡ b) × (c ≡ d)
-    same_k a b c d e = (cc, cc)
+    same_k : (a b : Kind) (c d : ℕ) → ◌≡◌ {A = Option Outcome} (joins_as a c) (joins_as b d) → (a ≡ b) × (c ≡ d)
+    same_k a b c d e =
+        let h : ◌≡◌ {A = Head} (record { kind = a; number = c }) (record { kind = b; number = d }) = cc in
+        (ap (λ (x : Head). x.kind) h, ap (λ (x : Head). x.number) h)
 
-    neighbour : over_one q r ≡ true → (t : Bool) → (same_kind M' Atmost || eqb m' 0) ≡ t → rs ≡ none → cond t (Joined M m) Dead ≡ Joined K N → Result Concat rs K N
+    neighbour : over_one q r ≡ true → (t : Bool) → (same_kind M' Atmost || eqb m' 0) ≡ t → rs ≡ none → cond t (joins_as M m) fits_nothing ≡ joins_as K N → Result Concat rs K N
     neighbour o true d z e =
         let i = same_k M K m N e in
         subst (λ (x : Queries). Result Concat x K N) (sym z)
         (subst (λ (x : Kind). Result Concat none x N) i.0 (subst (λ (x : ℕ). Result Concat none M x) i.1 (neighbour_shorter n p l xs ts q r o d)))
     neighbour o false d z e = absurd (dead e)
 
-    alternative : over_one q r ≡ true → (t : Bool) → merges M m M' m' ≡ t → cond t (Joined (merged_kind M M') (merged_number M m M' m')) Apart ≡ Joined K N → Result Any rs K N
+    alternative : over_one q r ≡ true → (t : Bool) → merges M m M' m' ≡ t → cond t (joins_as (merged_kind M M') (merged_number M m M' m')) None ≡ joins_as K N → Result Any rs K N
     alternative o true d e =
         let i = same_k (merged_kind M M') K (merged_number M m M' m') N e in
         subst (λ (x : Kind). Result Any rs x N) i.0 (subst (λ (x : ℕ). Result Any rs (merged_kind M M') x) i.1 (alternative_shorter n p l xs rs ts q r o d))
     alternative o false d e = absurd (apart e)
 
     go : (s : Bool) → alike_each ps ps' ≡ s → (t : Bool) → (unordered k && (same_kind M M' && eqb m m')) ≡ t → (u : Bool) → (repeats M && repeats M') ≡ u →
-        cond s (cond t (Joined M m) (cond u (repeats_become k M m M' m') Apart)) Apart ≡ Joined K N → Result k rs K N
+        cond s (cond t (joins_as M m) (cond u (repeats_become k M m M' m') None)) None ≡ joins_as K N → Result k rs K N
     go false s t d u f e = absurd (apart e)
     go true s true d u f e =
         let i = same_k M K m N e in
@@ -150,12 +151,12 @@ joined_shorter k n p l xs rs ts (node M m p₁ l₁ ps) (node M' m' p₂ l₂ ps
     go true s false d false f e = absurd (apart e)
     go true s false d true f e =
         let o = and_from _ _ f s in
-        on_gathers (λ x. (x ≡ Concat → rs ≡ none) → repeats_become x M m M' m' ≡ Joined K N → Result x rs K N)
+        on_gathers (λ x. (x ≡ Concat → rs ≡ none) → repeats_become x M m M' m' ≡ joins_as K N → Result x rs K N)
         (λ z e. neighbour o (same_kind M' Atmost || eqb m' 0) refl (z refl) e)
         (λ _ e. alternative o (merges M m M' m') refl e) (λ _ e. absurd (apart e)) (λ _ e. absurd (apart e)) k g next e
 
--- what Dead says of them
-dead_shorter' : (k : Kind) (n p l : ℕ) (xs rs ts : Queries) (q r : Query) → gathers k ≡ true → (k ≡ Concat → rs ≡ none) → of_pair k q r ≡ Dead →
+-- what `fits_nothing` says of them
+dead_shorter' : (k : Kind) (n p l : ℕ) (xs rs ts : Queries) (q r : Query) → gathers k ≡ true → (k ≡ Concat → rs ≡ none) → of_pair k q r ≡ fits_nothing →
     Shorter (node k n p l (join xs (more q (join rs (more r ts))))) (node Any 0 p l none)
 dead_shorter' k n p l xs rs ts (node M m p₁ l₁ ps) (node M' m' p₂ l₂ ps') g next e =
     go (alike_each ps ps') refl (unordered k && (same_kind M M' && eqb m m')) refl (repeats M && repeats M') refl e
@@ -169,59 +170,38 @@ dead_shorter' k n p l xs rs ts (node M m p₁ l₁ ps) (node M' m' p₂ l₂ ps'
     Result : Kind → Queries → Type 0
     Result k rs = Shorter (node k n p l (join xs (more q (join rs (more r ts))))) (node Any 0 p l none)
 
-    apart : ◌≡◌ {A = Outcome} Apart Dead → ⊥
+    apart : ◌≡◌ {A = Option Outcome} None fits_nothing → ⊥
     apart e = let z : ◌≡◌ {A = ℕ} 0 1 = cc in omega arith
 
-    joined : (a : Kind) (c : ℕ) → ◌≡◌ {A = Outcome} (Joined a c) Dead → ⊥
+    joined : (a : Kind) (c : ℕ) → ◌≡◌ {A = Option Outcome} (joins_as a c) fits_nothing → ⊥
     joined a c e = let z : ◌≡◌ {A = ℕ} 0 1 = cc in omega arith
 
-    neighbour : over_one q r ≡ true → (t : Bool) → (same_kind M' Atmost || eqb m' 0) ≡ t → rs ≡ none → cond t (Joined M m) Dead ≡ Dead → Result Concat rs
+    neighbour : over_one q r ≡ true → (t : Bool) → (same_kind M' Atmost || eqb m' 0) ≡ t → rs ≡ none → cond t (joins_as M m) fits_nothing ≡ fits_nothing → Result Concat rs
     neighbour o true d z e = absurd (joined M m e)
     neighbour o false d z e = subst (λ (x : Queries). Result Concat x) (sym z) (neighbours_shorter n p l xs ts q r o d)
 
-    alternative : (t : Bool) → cond t (Joined (merged_kind M M') (merged_number M m M' m')) Apart ≡ Dead → ⊥
+    alternative : (t : Bool) → cond t (joins_as (merged_kind M M') (merged_number M m M' m')) None ≡ fits_nothing → ⊥
     alternative true e = joined (merged_kind M M') (merged_number M m M' m') e
     alternative false e = apart e
 
     go : (s : Bool) → alike_each ps ps' ≡ s → (t : Bool) → (unordered k && (same_kind M M' && eqb m m')) ≡ t → (u : Bool) → (repeats M && repeats M') ≡ u →
-        cond s (cond t (Joined M m) (cond u (repeats_become k M m M' m') Apart)) Apart ≡ Dead → Result k rs
+        cond s (cond t (joins_as M m) (cond u (repeats_become k M m M' m') None)) None ≡ fits_nothing → Result k rs
     go false s t d u f e = absurd (apart e)
     go true s true d u f e = absurd (joined M m e)
     go true s false d false f e = absurd (apart e)
     go true s false d true f e =
         let o = and_from _ _ f s in
-        on_gathers (λ x. (x ≡ Concat → rs ≡ none) → repeats_become x M m M' m' ≡ Dead → Result x rs)
+        on_gathers (λ x. (x ≡ Concat → rs ≡ none) → repeats_become x M m M' m' ≡ fits_nothing → Result x rs)
         (λ z e. neighbour o (same_kind M' Atmost || eqb m' 0) refl (z refl) e)
         (λ _ e. absurd (alternative (merges M m M' m') e)) (λ _ e. absurd (apart e)) (λ _ e. absurd (apart e)) k g next e
 
 module _ (ns : List Node) (i x y : ℕ) (g : gathers (at ns i).kind ≡ true) (f : Pairs (at ns i).kind ns (at ns i).parts (i + 1) (Some (x, y))) where
-  -- both of the two stand where they were found
-  pub pair_stands : Stands ns i → Stands ns x × Stands ns y
-  pair_stands st = go st.1 st.3
-    where
-      go : (q : Query) → Here ns i q st.2 → Stands ns x × Stands ns y
-      go (node k n p l ps) h =
-          let v = whole_of ns i k n p l ps st.2 h in
-          let u = f ps st.2 (sym (ap (λ (z : Node). z.parts) v.here)) v.parts in
-          let row = subst (λ (qs : Queries). Row ns (i + 1) qs st.2) u.5 v.parts in
-          let at_x = part_of_row u.0 (more u.1 (join u.2 (more u.3 u.4))) ns (i + 1) st.2 row in
-          let here-x = row_head ns (i + 1 + length (records_each u.0)) u.1 (join u.2 (more u.3 u.4)) st.2 at_x in
-          let at_y = part_of_row u.2 (more u.3 u.4) ns (i + 1 + length (records_each u.0) + length (records u.1)) st.2
-          (here_after ns (i + 1 + length (records_each u.0)) u.1 (records_each (join u.2 (more u.3 u.4)) ++ st.2) here-x) in
-          let here-y = row_head ns (i + 1 + length (records_each u.0) + length (records u.1) + length (records_each u.2)) u.3 u.4 st.2 at_y in
-          let x-is : i + 1 + length (records_each u.0) ≡ x = sym u.7 in
-          let y-is : i + 1 + length (records_each u.0) + length (records u.1) + length (records_each u.2) ≡ y =
-          ap (λ (z : ℕ). z + length (records u.1) + length (records_each u.2)) x-is ∙ sym u.8 in (
-            subst (Stands ns) x-is (here_inside ns _ u.1 _ here-x, u.1, records_each (join u.2 (more u.3 u.4)) ++ st.2, here-x),
-            subst (Stands ns) y-is (here_inside ns _ u.3 _ here-y, u.3, records_each u.4 ++ st.2, here-y),
-          )
-
-  module _ (o : Outcome) (j : Judges ns (at ns i).kind x y o) where
+  module _ (o : Option Outcome) (e : o ≡ pair_at (at ns i).kind (ns, x) (ns, y)) where
     -- the two, and what becomes of them
     found : (k : Kind) (n p l : ℕ) (ps : Queries) (rest : List Node) → Here ns i (node k n p l ps) rest →
         (xs : Queries) × (q : Query) × (rs : Queries) × (r : Query) × (ts : Queries)
         × (ps ≡ join xs (more q (join rs (more r ts)))) × (x ≡ i + 1 + length (records_each xs))
-        × (y ≡ x + length (records q) + length (records_each rs)) × (k ≡ Concat → rs ≡ none) × (gathers k ≡ true) × (o ≡ of_pair k q r) × (speaks o ≡ true)
+        × (y ≡ x + length (records q) + length (records_each rs)) × (k ≡ Concat → rs ≡ none) × (gathers k ≡ true) × (o ≡ of_pair k q r) × (is_some o ≡ true)
     found k n p l ps rest h =
         let v = whole_of ns i k n p l ps rest h in
         let kind : (at ns i).kind ≡ k = ap (λ (z : Node). z.kind) v.here in
@@ -237,7 +217,7 @@ module _ (ns : List Node) (i x y : ℕ) (g : gathers (at ns i).kind ≡ true) (f
         let y-is : i + 1 + length (records_each u.0) + length (records u.1) + length (records_each u.2) ≡ y =
         ap (λ (z : ℕ). z + length (records u.1) + length (records_each u.2)) x-is ∙ sym u.8 in
         let o_is : o ≡ of_pair (at ns i).kind u.1 u.3 =
-        j u.1 u.3 (records_each tail-x ++ rest) (records_each u.4 ++ rest)
+        e ∙ judged (at ns i).kind ns ns x y u.1 u.3 (records_each tail-x ++ rest) (records_each u.4 ++ rest)
         (subst (λ (z : ℕ). Here ns z u.1 (records_each tail-x ++ rest)) x-is here-x) (subst (λ (z : ℕ). Here ns z u.3 (records_each u.4 ++ rest)) y-is here-y) in (
           u.0,
           u.1,
@@ -250,19 +230,19 @@ module _ (ns : List Node) (i x y : ℕ) (g : gathers (at ns i).kind ≡ true) (f
           (λ is. u.9 (kind ∙ is)),
           sym (ap gathers kind) ∙ g,
           o_is ∙ ap (λ (K : Kind). of_pair K u.1 u.3) kind,
-          ap speaks o_is ∙ u.6,
+          ap is_some o_is ∙ u.6,
         )
 
-    pub join_change : (K : Kind) (N : ℕ) → o ≡ Joined K N → Joining ns i (Some (Join x y K N))
-    join_change K N is (node k n p l ps) rest h =
+    pub join_change : (t : Head) → o ≡ Some (Joined t) → Joining ns i (Some (Join x y t))
+    join_change t is (node k n p l ps) rest h =
         let u = found k n p l ps rest h in (
-          node k n p l (join u.0 (more (renamed u.1 K N) (join u.2 u.4))),
+          node k n p l (join u.0 (more (renamed u.1 t.kind t.number) (join u.2 u.4))),
           record { k = k; n = n; p = p; l = l; before = u.0; earlier = u.1; between = u.2; later = u.3; behind = u.4; was = ap (node k n p l) u.5; now_is = refl; place = u.6; place' = u.7 },
-          subst (λ (qs : Queries). Shorter (node k n p l qs) (node k n p l (join u.0 (more (renamed u.1 K N) (join u.2 u.4))))) (sym u.5)
-              (joined_shorter k n p l u.0 u.2 u.4 u.1 u.3 K N u.9 u.8 (sym u.10 ∙ is)),
+          subst (λ (qs : Queries). Shorter (node k n p l qs) (node k n p l (join u.0 (more (renamed u.1 t.kind t.number) (join u.2 u.4))))) (sym u.5)
+              (joined_shorter k n p l u.0 u.2 u.4 u.1 u.3 t.kind t.number u.9 u.8 (sym u.10 ∙ is)),
         )
 
-    pub clear_change : o ≡ Dead → Joining ns i (Some Clear)
+    pub clear_change : o ≡ fits_nothing → Joining ns i (Some Clear)
     clear_change is (node k n p l ps) rest h =
         let u = found k n p l ps rest h in (
           node Any 0 p l none,
@@ -271,7 +251,7 @@ module _ (ns : List Node) (i x y : ℕ) (g : gathers (at ns i).kind ≡ true) (f
               (dead_shorter' k n p l u.0 u.2 u.4 u.1 u.3 u.9 u.8 (sym u.10 ∙ is)),
         )
 
-    pub never_apart : o ≡ Apart → Joining ns i None
+    pub never_apart : o ≡ None → Joining ns i None
     never_apart is (node k n p l ps) rest h = let u = found k n p l ps rest h in absurd (no_outcome o is u.11)
 
 pub nothing_joins : (ns : List Node) (i : ℕ) → Pairs (at ns i).kind ns (at ns i).parts (i + 1) None → Joining ns i None
@@ -293,58 +273,58 @@ part_fewer f g h (more q qs) e =
     go false e z = e
 
 -- a rule speaks of two equal parts, of two alternatives that make one, and of neighbours
-speaks_double : (k : Kind) (q r : Query) → unordered k ≡ true → alike q r ≡ true → speaks (of_pair k q r) ≡ true
+speaks_double : (k : Kind) (q r : Query) → unordered k ≡ true → alike q r ≡ true → is_some (of_pair k q r) ≡ true
 unfolding alike
 speaks_double k (node M m p l ps) (node M' m' p' l' ps') g e =
     let a = and_parts (same_kind M M' && eqb m m') _ e in
-    ap speaks (cond-true (alike_each ps ps') _ Apart a.1 ∙ cond-true (unordered k && (same_kind M M' && eqb m m')) (Joined M m) _ (and_from _ _ g a.0))
+    ap is_some (cond-true (alike_each ps ps') _ None a.1 ∙ cond-true (unordered k && (same_kind M M' && eqb m m')) (joins_as M m) _ (and_from _ _ g a.0))
 
-speaks_over : (k : Kind) (q r : Query) → over_one q r ≡ true → speaks (repeats_become k (kind_of q) (number_of q) (kind_of r) (number_of r)) ≡ true → speaks (of_pair k q r) ≡ true
+speaks_over : (k : Kind) (q r : Query) → over_one q r ≡ true → is_some (repeats_become k (kind_of q) (number_of q) (kind_of r) (number_of r)) ≡ true → is_some (of_pair k q r) ≡ true
 speaks_over k (node M m p l ps) (node M' m' p' l' ps') o e =
     let a = and_parts (repeats M && repeats M') _ o in
-    ap speaks (cond-true (alike_each ps ps') _ Apart a.1) ∙ either (unordered k && (same_kind M M' && eqb m m')) (cond-true (repeats M && repeats M') _ Apart a.0)
+    ap is_some (cond-true (alike_each ps ps') _ None a.1) ∙ either (unordered k && (same_kind M M' && eqb m m')) (cond-true (repeats M && repeats M') _ None a.0)
   where
-    either : (t : Bool) → cond (repeats M && repeats M') (repeats_become k M m M' m') Apart ≡ repeats_become k M m M' m' →
-        speaks (cond t (Joined M m) (cond (repeats M && repeats M') (repeats_become k M m M' m') Apart)) ≡ true
+    either : (t : Bool) → cond (repeats M && repeats M') (repeats_become k M m M' m') None ≡ repeats_become k M m M' m' →
+        is_some (cond t (joins_as M m) (cond (repeats M && repeats M') (repeats_become k M m M' m') None)) ≡ true
     either true is = refl
-    either false is = ap speaks is ∙ e
+    either false is = ap is_some is ∙ e
 
-speaks_neighbour : (q r : Query) → over_one q r ≡ true → speaks (of_pair Concat q r) ≡ true
+speaks_neighbour : (q r : Query) → over_one q r ≡ true → is_some (of_pair Concat q r) ≡ true
 speaks_neighbour q r o = speaks_over Concat q r o (either (same_kind (kind_of r) Atmost || eqb (number_of r) 0))
   where
-    either : (t : Bool) → speaks (cond t (Joined (kind_of q) (number_of q)) Dead) ≡ true
+    either : (t : Bool) → is_some (cond t (joins_as (kind_of q) (number_of q)) fits_nothing) ≡ true
     either true = refl
     either false = refl
 
-speaks_alternative : (q r : Query) → (over_one q r && merges (kind_of q) (number_of q) (kind_of r) (number_of r)) ≡ true → speaks (of_pair Any q r) ≡ true
+speaks_alternative : (q r : Query) → (over_one q r && merges (kind_of q) (number_of q) (kind_of r) (number_of r)) ≡ true → is_some (of_pair Any q r) ≡ true
 speaks_alternative q r e =
     let a = and_parts (over_one q r) _ e in
-    speaks_over Any q r a.0 (ap speaks (cond-true (merges (kind_of q) (number_of q) (kind_of r) (number_of r)) _ Apart a.1))
+    speaks_over Any q r a.0 (ap is_some (cond-true (merges (kind_of q) (number_of q) (kind_of r) (number_of r)) _ None a.1))
 
 unordered_within : (k : Kind) (qs : Queries) → unordered k ≡ true → within k qs ≡ qs
 unordered_within k qs g = on_unordered (λ K. within K qs ≡ qs) refl refl refl k g
 
--- where no two parts are joined, no pair of them passes a test that a rule speaks of
-no_pair : (k : Kind) (test : Query → Query → Bool) → unordered k ≡ true → ((q r : Query) → test q r ≡ true → speaks (of_pair k q r) ≡ true) →
+-- where no two parts are joined, no pair of them passes a test that a rule is_some of
+no_pair : (k : Kind) (test : Query → Query → Bool) → unordered k ≡ true → ((q r : Query) → test q r ≡ true → is_some (of_pair k q r) ≡ true) →
     (qs : Queries) → some_joined k qs ≡ false → some_pair test qs ≡ false
 unfolding some_joined some_pair
 no_pair k test g h none e = refl
 no_pair k test g h (more q qs) e =
     let b = or_parts _ _ e in
-    or_from _ _ (part_fewer (test q) (λ r. speaks (of_pair k q r)) (h q) qs
-    (sym (ap (some_part (λ r. speaks (of_pair k q r))) (unordered_within k qs g)) ∙ b.0)) (no_pair k test g h qs b.1)
+    or_from _ _ (part_fewer (test q) (λ r. is_some (of_pair k q r)) (h q) qs
+    (sym (ap (some_part (λ r. is_some (of_pair k q r))) (unordered_within k qs g)) ∙ b.0)) (no_pair k test g h qs b.1)
 
-no_next : (test : Query → Query → Bool) → ((q r : Query) → test q r ≡ true → speaks (of_pair Concat q r) ≡ true) →
+no_next : (test : Query → Query → Bool) → ((q r : Query) → test q r ≡ true → is_some (of_pair Concat q r) ≡ true) →
     (qs : Queries) → some_joined Concat qs ≡ false → some_next test qs ≡ false
 unfolding some_joined some_next some_part
 no_next test h none e = refl
 no_next test h (more q none) e = refl
 no_next test h (more q (more r qs)) e =
     let b = or_parts _ _ e in
-    let c = or_parts (speaks (of_pair Concat q r)) false b.0 in
+    let c = or_parts (is_some (of_pair Concat q r)) false b.0 in
     or_from _ _ (go (test q r) refl c.0) (no_next test h (more r qs) b.1)
   where
-    go : (t : Bool) → test q r ≡ t → speaks (of_pair Concat q r) ≡ false → test q r ≡ false
+    go : (t : Bool) → test q r ≡ t → is_some (of_pair Concat q r) ≡ false → test q r ≡ false
     go true e z = absurd (true≢false (sym (h q r e) ∙ z))
     go false e z = e
 
@@ -395,30 +375,21 @@ strict_one And m e h = absurd (false≢true e)
 strict_one Or m e h = absurd (false≢true e)
 strict_one Inorder m e h = absurd (false≢true e)
 
--- the only part of an exact or atleast
-pub inner_stands : (ns : List Node) (i : ℕ) → strict (at ns i).kind ≡ true → Kept ns i → Stands ns (i + 1)
-inner_stands ns i g kt = go kt.3 kt.5 kt.6
-  where
-    go : (q : Query) → keeps kt.1 kt.2 q ≡ true → Here ns i q kt.4 → Stands ns (i + 1)
-    go (node k n p l ps) kept h =
-        let v = whole_of ns i k n p l ps kt.4 h in
-        let a = keeps_parts kt.1 kt.2 k n p l ps kept in
-        let q = only_one ps (strict_one k (count ps) (sym (ap (λ (z : Node). strict z.kind) v.here) ∙ g) a.parts) in
-        let row = subst (λ (qs : Queries). Row ns (i + 1) qs kt.4) q.1 v.parts in
-        let here = row_head ns (i + 1) q.0 none kt.4 row in
-        (here_inside ns (i + 1) q.0 _ here, q.0, records_each none ++ kt.4, here)
+-- an exact or atleast has a part
+pub no_inner : (ns : List Node) (i : ℕ) → strict (at ns i).kind ≡ true → (at ns i).parts ≡ 0 → (r : Option Change) → Changes ns i r
+no_inner ns i g z r s o (node k n p l ps) rest kept h =
+    let v = whole_of ns i k n p l ps rest h in
+    let a = keeps_parts s o k n p l ps kept in
+    let one = strict_one k (count ps) (sym (ap (λ (x : Node). strict x.kind) v.here) ∙ g) a.parts in
+    let many : (at ns i).parts ≡ count ps = ap (λ (x : Node). x.parts) v.here in
+    absurd (omega arith)
 
 -- whether a query stands alone, from its record and whether there is a window in it
-pub alone_here : (ns : List Node) (i end : ℕ) (w t : Bool) → Ends ns i end → w ≡ any_window (take (end - (i + 1)) (drop (i + 1) ns)) →
+pub alone_here : (ns : List Node) (i : ℕ) (w t : Bool) → w ≡ any_window (inner ns i) →
     t ≡ (strict (at ns i).kind && (ltb 0 (at ns i).number && not w)) → Alone ns i t
-alone_here ns i end w t ends window e (node k n p l ps) rest h =
+alone_here ns i w t window e (node k n p l ps) rest h =
     let v = whole_of ns i k n p l ps rest h in
-    let size = size_node k n p l ps in
-    let z = ends (node k n p l ps) rest h in
-    let many : end - (i + 1) ≡ length (records_each ps) = omega arith in
-    let inside : w ≡ windowed_each ps =
-    window ∙ ap₂ (λ (m : ℕ) (xs : List Node). any_window (take m xs)) many v.parts ∙ ap any_window (take_at (records_each ps) rest (length (records_each ps)) refl)
-    ∙ window_records_each ps in
+    let inside : w ≡ windowed_each ps = window ∙ ap any_window (inner_is ns i k n p l ps rest h) ∙ window_records_each ps in
     e ∙ ap₂ (λ (x : Node) (u : Bool). strict x.kind && (ltb 0 x.number && not u)) v.here inside
 
 -- the records of a query end inside the sheet

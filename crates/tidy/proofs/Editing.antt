@@ -1,7 +1,9 @@
 -- Records cut out of a sheet, and what a change of records makes of the query that they are.
-use Rattle.std.proofs.Common.{◌≡◌, ℕ, suc, ◌+◌, ◌-◌, ◌<◌, ◌≤◌, List, [], ◌∷◌, ◌++◌, length, get_or, take, drop, set, replicate, sym, refl, ap, ◌∙◌, subst, ap₂, inl, inr, append_assoc, append-nil, arith}
-use Rattle.std.proofs.lemmas.List.{length-append, length-drop, length-take-le, length-replicate, length-set, take-append-drop, take_all, drop_all, take_more, drop_more, take_at, drop_at, set_at, get_or-append_right, get_or_append_left, get_or_past, get_or-drop, get_or-replicate}
-use Rattle.std.proofs.lemmas.Bool.{cases_lt}
+use Rattle.std.proofs.Common.{◌≡◌, ℕ, suc, ◌+◌, ◌-◌, ◌<◌, ◌≤◌, List, [], ◌∷◌, ◌++◌, length, take, drop, set, replicate, sym, refl, ap, ◌∙◌, subst, ap₂, append_assoc, append-nil, arith}
+use Rattle.std.proofs.lemmas.List.{length-append, length-drop, length-take-le, take-append-drop, take_all, drop_all, take_at, drop_at, set_at}
+use Rattle.std.specs.List.{copy_within}
+use Rattle.std.proofs.lemmas.List.Edits.{take-paste}
+use borrow.Rule.Slice.PartMut.{put_mid, mid_of, post_of}
 use Rattle.query.specs.declared.node.Kind.{Kind}
 use Rattle.query.specs.declared.node.Kind.TheVariants.{Any}
 use Rattle.query.specs.declared.node.Node.{Node}
@@ -12,84 +14,33 @@ use Rattle.rules.specs.Places.{Here, Stands, Ends}
 use Rattle.rules.proofs.Parts.{count_join, records_join, size_join, size_more, size_node}
 use Rattle.rules.proofs.Cursor.{whole_of, here_after, here_inside, part_of_row, row_head}
 use Rattle.rules.proofs.Walking.{none_long, row_long}
+use Rattle.tidy.specs.declared.head.Head.{Head}
 use Rattle.tidy.specs.declared.change.Change.TheVariants.{Lift, Clear, Unnest, Join}
 use Rattle.tidy.specs.Changes.{Joins}
 use Rattle.tidy.specs.Edits.{cut_out, replaced, Makeable, Made}
 
--- Cutting, record by record
-
-pub cut_length : (ns : List Node) (from to : ℕ) → from ≤ to → to ≤ length ns → length (cut_out ns from to) ≡ length ns
-cut_length ns from to l u =
-    let a = length-append (take from ns) (drop to ns ++ replicate (to - from) blank) in
-    let b = length-append (drop to ns) (replicate (to - from) blank) in
-    let c = length-take-le from ns (omega arith) in
+-- what is left once those behind have been copied down and the end has been filled
+pub cut_copied : (ns moved filled : List Node) (from to : ℕ) {x : Node} → from ≤ to → to ≤ length ns → length moved ≡ length ns →
+    moved ≡ copy_within ns to (length ns) from →
+    filled ≡ replicate (length (mid_of (length moved - (to - from)) (length moved - (length moved - (to - from))) moved)) x → x ≡ blank →
+    put_mid (length moved - (to - from)) (length moved - (length moved - (to - from))) moved filled ≡ cut_out ns from to
+cut_copied ns moved filled from to l u n m f b =
     let d = length-drop to ns in
-    let e = length-replicate (to - from) blank in
-    omega arith
-
--- what stands there afterwards
-cut_moved : (ns : List Node) (from to k : ℕ) → from ≤ to → to ≤ length ns → from ≤ k → k < length ns - (to - from) → get_or (cut_out ns from to) k blank ≡ at ns (k + (to - from))
-cut_moved ns from to k l u m v =
-    let c = length-take-le from ns (omega arith) in
-    let d = length-drop to ns in
-    let e : to + (k - from) ≡ k + (to - from) = omega arith in
-    get_or-append_right (take from ns) (drop to ns ++ replicate (to - from) blank) from k blank c m
-    ∙ get_or_append_left (drop to ns) (replicate (to - from) blank) blank (k - from) (omega arith)
-    ∙ get_or-drop to ns (k - from) blank ∙ ap (λ (x : ℕ). get_or ns x blank) e
-
-cut_blank : (ns : List Node) (from to k : ℕ) → from ≤ to → to ≤ length ns → length ns - (to - from) ≤ k → k < length ns → get_or (cut_out ns from to) k blank ≡ blank
-cut_blank ns from to k l u m v =
-    let c = length-take-le from ns (omega arith) in
-    let d = length-drop to ns in
-    get_or-append_right (take from ns) (drop to ns ++ replicate (to - from) blank) from k blank c (omega arith)
-    ∙ get_or-append_right (drop to ns) (replicate (to - from) blank) (length (drop to ns)) (k - from) blank refl (omega arith)
-    ∙ get_or-replicate (to - from) (k - from - length (drop to ns)) blank blank (omega arith)
-
--- the first k are as they are to be, the others as they were
-abbrev pub Cutting : List Node → ℕ → ℕ → ℕ → List Node → Type 0
-Cutting ns from to k now_is = (now_is ≡ take k (cut_out ns from to) ++ drop k ns) × (length now_is ≡ length ns)
-
-pub cut_start : (ns : List Node) (from to : ℕ) → from ≤ to → to ≤ length ns → Cutting ns from to from ns
-cut_start ns from to l u = (
-  sym (ap (λ (x : List Node). x ++ drop from ns) (take_at (take from ns) (drop to ns ++ replicate (to - from) blank) from (length-take-le from ns (omega arith)))
-      ∙ take-append-drop from ns),
-  refl,
-)
-
--- what has not been reached is as it was
-ahead : (ns : List Node) (from to k j : ℕ) (now_is : List Node) → from ≤ to → to ≤ length ns → k ≤ j → j < length ns → Cutting ns from to k now_is → at now_is j ≡ at ns j
-ahead ns from to k j now_is l u m v w =
-    let n = cut_length ns from to l u in
-    let c = length-take-le k (cut_out ns from to) (omega arith) in
-    let e : k + (j - k) ≡ j = omega arith in
-    ap (λ (x : List Node). at x j) w.0
-    ∙ get_or-append_right (take k (cut_out ns from to)) (drop k ns) k j blank c m ∙ get_or-drop k ns (j - k) blank ∙ ap (λ (x : ℕ). get_or ns x blank) e
-
-over_more : (all before now_is : List Node) (k : ℕ) (x : Node) → length all ≡ length before → k < length before → now_is ≡ take k all ++ drop k before → x ≡ get_or all k blank →
-    set now_is k x ≡ take (k + 1) all ++ drop (k + 1) before
-over_more all before now_is k x same l e is =
-    let m = drop_more before k blank l in
-    let t = length-take-le k all (omega arith) in
-    let u : k < length all = omega arith in
-    ap (λ (xs : List Node). set xs k x) (e ∙ ap (λ (xs : List Node). take k all ++ xs) m)
-    ∙ set_at (take k all) (get_or before k blank) (drop (k + 1) before) x k t
-    ∙ ap (λ (y : Node). take k all ++ (y ∷ drop (k + 1) before)) is
-    ∙ sym (ap (λ (xs : List Node). xs ++ drop (k + 1) before) (take_more all k blank u) ∙ append_assoc (take k all) (get_or all k blank ∷ []) (drop (k + 1) before))
-
-module _ (ns : List Node) (from to : ℕ) (l : from ≤ to) (u : to ≤ length ns) (k : ℕ) (now_is : List Node) (m : from ≤ k) (v : k < length ns) (w : Cutting ns from to k now_is) where
-  pub cut_step : Cutting ns from to (k + 1) (set now_is k (at now_is (k + (to - from))))
-  cut_step = (
-    over_more (cut_out ns from to) ns now_is k (at now_is (k + (to - from))) (cut_length ns from to l u) v w.0 (elim (cases_lt k (length ns - (to - from))) [
-      | inl low ↦ ahead ns from to k (k + (to - from)) now_is l u (omega arith) (omega arith) w ∙ sym (cut_moved ns from to k l u m low)
-      | inr high ↦ get_or_past now_is (k + (to - from)) blank (let n = w.1 in omega arith) ∙ sym (cut_blank ns from to k l u high v)
-    ]),
-    length-set now_is k (at now_is (k + (to - from))) ∙ w.1,
-  )
-
-pub cut_end : (ns : List Node) (from to k : ℕ) (now_is : List Node) → from ≤ to → to ≤ length ns → length ns ≤ k → Cutting ns from to k now_is → now_is ≡ cut_out ns from to
-cut_end ns from to k now_is l u m w =
-    let n = cut_length ns from to l u in
-    w.0 ∙ ap₂ (λ (x y : List Node). x ++ y) (take_all k (cut_out ns from to) (omega arith)) (drop_all k ns m) ∙ append-nil (cut_out ns from to)
+    let at_kept : length moved - (to - from) ≡ from + (length ns - to) = omega arith in
+    let front : take (length moved - (to - from)) moved ≡ take from ns ++ drop to ns =
+    ap₂ (λ (k : ℕ) (xs : List Node). take k xs) at_kept m
+    ∙ take-paste ns from (drop to ns) (length ns - to) (omega arith) (omega arith)
+    ∙ ap (λ (xs : List Node). take from ns ++ xs) (take_all (length ns - to) (drop to ns) (omega arith)) in
+    let gap = length moved - (length moved - (to - from)) in
+    let e = length-drop (length moved - (to - from)) moved in
+    let many : length (mid_of (length moved - (to - from)) gap moved) ≡ to - from =
+    length-take-le gap (drop (length moved - (to - from)) moved) (omega arith) ∙ omega arith in
+    ap₂ (λ (xs ys : List Node). xs ++ (ys ++ post_of (length moved - (to - from)) gap moved)) front
+    (f ∙ ap₂ (λ (k : ℕ) (y : Node). replicate k y) many b)
+    ∙ ap (λ (xs : List Node). (take from ns ++ drop to ns) ++ (replicate (to - from) blank ++ xs))
+    (drop_all gap (drop (length moved - (to - from)) moved) (omega arith))
+    ∙ ap (λ (xs : List Node). (take from ns ++ drop to ns) ++ xs) (append-nil (replicate (to - from) blank))
+    ∙ append_assoc (take from ns) (drop to ns) (replicate (to - from) blank)
 
 -- Cutting a piece out of a list
 
@@ -265,11 +216,11 @@ module _ (ns : List Node) (i x y : ℕ) (K : Kind) (N : ℕ) (q q' : Query) (res
       let b = count_join m.between (more m.later m.behind) in
       ap (λ (z : Node). z.parts) v.here ∙ a ∙ ap (λ (z : ℕ). count m.before + suc z) b
 
-pub join_room : (ns : List Node) (i x y : ℕ) (K : Kind) (N : ℕ) → Makeable ns i (Join x y K N) → (x < length ns) × (1 ≤ (at ns i).parts) × Stands ns y
-join_room ns i x y K N mk =
-    let hx = join_x ns i x y K N mk.1 mk.3 mk.2 mk.4 mk.5 in
-    let hy = join_y ns i x y K N mk.1 mk.3 mk.2 mk.4 mk.5 in
-    let parts = join_parts ns i x y K N mk.1 mk.3 mk.2 mk.4 mk.5 in
+pub join_room : (ns : List Node) (i x y : ℕ) (t : Head) → Makeable ns i (Join x y t) → (x < length ns) × (1 ≤ (at ns i).parts) × Stands ns y
+join_room ns i x y t mk =
+    let hx = join_x ns i x y t.kind t.number mk.1 mk.3 mk.2 mk.4 mk.5 in
+    let hy = join_y ns i x y t.kind t.number mk.1 mk.3 mk.2 mk.4 mk.5 in
+    let parts = join_parts ns i x y t.kind t.number mk.1 mk.3 mk.2 mk.4 mk.5 in
     let m = mk.5 in (
       here_inside ns x m.earlier _ hx,
       omega arith,
@@ -305,11 +256,17 @@ pub own_first : (k : Kind) (n p l : ℕ) (qs : Queries) (rest : List Node) → o
 unfolding records
 own_first k n p l qs rest = refl
 
-pub join_made : (ns after : List Node) (i x y end : ℕ) (K : Kind) (N : ℕ) → Ends ns y end →
+pub join_made : (ns after : List Node) (i x y end : ℕ) (t : Head) → Ends ns y end →
     after ≡ cut_out (set (set ns i (own (at ns i).kind (at ns i).number ((at ns i).parts - 1) (at ns i).place (at ns i).length)) x
-    (own K N (at ns x).parts (at ns x).place (at ns x).length)) y end → Made ns i (Join x y K N) after
-join_made ns after i x y end K N ends e q rest q' h m f = go m.earlier refl
+    (own t.kind t.number (at ns x).parts (at ns x).place (at ns x).length)) y end → Made ns i (Join x y t) after
+join_made ns after i x y end t ends e q rest q' h m f = go m.earlier refl
   where
+    K : Kind
+    K = t.kind
+
+    N : ℕ
+    N = t.number
+
     whole_here : Here ns i (node m.k m.n m.p m.l (join m.before (more m.earlier (join m.between (more m.later m.behind))))) rest
     whole_here = subst (λ (z : Query). Here ns i z rest) m.was h
 

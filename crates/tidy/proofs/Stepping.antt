@@ -12,7 +12,7 @@ use Rattle.query.specs.Stands.{blank, at, next_at}
 use Rattle.query.proofs.Standing.{found}
 use Rattle.rules.specs.Applies.{parts_of, applies, applies_in}
 use Rattle.rules.specs.Parts.{join}
-use Rattle.rules.specs.Places.{Here, Kept, KeptWithin}
+use Rattle.rules.specs.Places.{Here, Stands, KeptWithin}
 use Rattle.rules.specs.Shorter.{Shorter}
 use Rattle.rules.proofs.Parts.{count_join, records_join, size_join, size_more, size_node, levels_join, levels_more, levels_node}
 use Rattle.rules.proofs.Shorter.{keeps_parts, each_keeps, more_keeps, shorter_in}
@@ -23,9 +23,9 @@ use Rattle.tidy.specs.Edits.{replaced, Makeable, Made, Steps}
 use Rattle.tidy.specs.Promise.{Settled, Settles}
 use Rattle.tidy.proofs.Editing.{own, own_first, around, here_long}
 
--- a query kept within levels is kept, and has a level
-pub within_kept : (d : ℕ) (ns : List Node) (i : ℕ) → KeptWithin d ns i → Kept ns i
-within_kept d ns i h = (h.0, h.1, h.2, h.3, h.4, h.5, h.8)
+-- a query kept within levels stands, and has a level
+pub within_stands : (d : ℕ) (ns : List Node) (i : ℕ) → KeptWithin d ns i → Stands ns i
+within_stands d ns i h = (h.0, h.3, h.4, h.8)
 
 pub within_deep : (d : ℕ) (ns : List Node) (i : ℕ) → KeptWithin d ns i → 1 ≤ d
 within_deep d ns i h = go h.3 h.6

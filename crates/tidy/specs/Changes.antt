@@ -75,7 +75,7 @@ abbrev pub Makes : ℕ → Query → Change → Query → Type 0
 Makes i q Lift q' = Lifts q q'
 Makes i q Clear q' = Clears q q'
 Makes i q (Unnest j) q' = Unnests i j q q'
-Makes i q (Join x y k n) q' = Joins i x y k n q q'
+Makes i q (Join x y h) q' = Joins i x y h.kind h.number q q'
 
 -- a change makes a shorter query of it
 abbrev pub Shortens : ℕ → Query → Change → Type 0

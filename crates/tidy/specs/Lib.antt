@@ -1,4 +1,5 @@
 pub mod Outcomes
+pub mod Rows
 pub mod Searches
 pub mod Changes
 pub mod Edits

@@ -1,6 +1,6 @@
 //! What a rule makes of a whole.
 
-use query::Kind;
+use crate::head::Head;
 
 /// A change of the whole that stands at some index.
 #[derive(Clone, Copy)]
@@ -11,11 +11,10 @@ pub(crate) enum Change {
     Clear,
     /// The part at this index gives way to its own parts.
     Unnest(usize),
-    /// The later part goes, and the earlier one takes this kind and this number.
+    /// The later part goes, and the earlier one takes this head.
     Join {
         earlier: usize,
         later: usize,
-        kind: Kind,
-        number: u8,
+        head: Head,
     },
 }

@@ -7,20 +7,9 @@ ghost use Rattle.tidy.specs.declared.change.Change.TheVariants.{Lift, Clear, Unn
 ghost use Rattle.tidy.specs.Edits.{cut_out, Makeable, Made};
 
 use crate::change::Change;
-use crate::walk::part_end;
+use crate::head::Head;
+use crate::part::Part;
 use query::{Kind, Node};
-
-// The record so many places behind index k, or a blank one past the end.
-fn behind(sheet: &[Node], k: usize, gap: usize) -> Node
-    requires inside { gap ≤ length sheet.now }
-    ensures { result ≡ recordAt sheet.now (k + gap) }
-{
-    if k < sheet.len() - gap {
-        sheet[k + gap]
-    } else {
-        Node::blank()
-    }
-}
 
 // The records from one index up to another go, those behind them move up, and blanks fill the end.
 pub(crate) fn cut(sheet: &mut [Node], from: usize, to: usize)
@@ -28,9 +17,9 @@ pub(crate) fn cut(sheet: &mut [Node], from: usize, to: usize)
     requires inside { to ≤ length sheet.old }
     ensures { sheet.new ≡ cut_out sheet.old from to }
 {
-    for k in from..sheet.len() {
-        sheet[k] = behind(sheet, k, to - from);
-    }
+    sheet.copy_within(to.., from);
+    let kept = sheet.len() - (to - from);
+    sheet[kept..].fill(Node::blank());
 }
 
 // The whole at index i gives way to its only part.
@@ -46,7 +35,11 @@ fn clear(sheet: &mut [Node], i: usize)
     requires stands { Stands sheet.old i }
     ensures { Made sheet.old i Clear sheet.new }
 {
-    let end = part_end(sheet, i);
+    let part = Part {
+        records: sheet,
+        at: i,
+    };
+    let end = part.end();
     let node = sheet[i];
     sheet[i] = Node {
         kind: Kind::Any,
@@ -71,21 +64,25 @@ fn unnest(sheet: &mut [Node], i: usize, j: usize)
     cut(sheet, j, j + 1);
 }
 
-// Of the whole at index i, the part at index y goes, and the part at index x takes this kind and this number.
-fn join(sheet: &mut [Node], i: usize, x: usize, y: usize, kind: Kind, number: u8)
+// Of the whole at index i, the part at index y goes, and the part at index x takes this head.
+fn join(sheet: &mut [Node], i: usize, x: usize, y: usize, head: Head)
     requires whole { i < length sheet.old }
     requires earlier { x < length sheet.old }
     requires later { Stands sheet.old y }
     requires some { 1 ≤ (recordAt sheet.old i).parts }
-    ensures { Made sheet.old i (Join x y kind number) sheet.new }
+    ensures { Made sheet.old i (Join x y head) sheet.new }
 {
-    let end = part_end(sheet, y);
+    let part = Part {
+        records: sheet,
+        at: y,
+    };
+    let end = part.end();
     let (node, earlier) = (sheet[i], sheet[x]);
     let parts = node.parts - 1;
     sheet[i] = Node { parts, ..node };
     sheet[x] = Node {
-        kind,
-        number,
+        kind: head.kind,
+        number: head.number,
         ..earlier
     };
     cut(sheet, y, end);
@@ -103,8 +100,7 @@ pub(crate) fn make(sheet: &mut [Node], i: usize, change: Change)
         Change::Join {
             earlier,
             later,
-            kind,
-            number,
-        } => join(sheet, i, earlier, later, kind, number),
+            head,
+        } => join(sheet, i, earlier, later, head),
     }
 }

@@ -7,14 +7,16 @@ ghost use Rattle.query.specs.Stands.{is_query as isQuery};
 ghost use Rattle.query.specs.declared.node.Stage.TheVariants.{Bound};
 ghost use Rattle.tidy.specs.Faults.{fault_number, fault_returned};
 ghost use Rattle.std.specs.Option.{unwrap_or};
-ghost use Rattle.std.specs.Result.{result_ok};
+ghost use Rattle.std.specs.Result.{result_ok, result_err};
 ghost use Rattle.tidy.specs.Promise.{refusal as refused, Answers};
 
 mod change;
 mod edits;
 mod fault;
+mod head;
 mod outcome;
 mod pairs;
+mod part;
 mod rule;
 mod search;
 mod settle;
@@ -24,24 +26,23 @@ mod wanted;
 use edits::cut;
 pub use fault::TidyFault;
 use query::{Node, Stage, is_query};
+use refusal::Refusal;
 use settle::settle;
 use text::BoundShape;
 
-impl TidyFault {
-    /// The refusal's number.
-    pub fn number(self) -> u8
-        ensures { result ≡ fault_number self }
-    {
+impl Refusal for TidyFault {
+    ghost number = { fault_number };
+
+    ghost returned = { fault_returned };
+
+    fn number(&self) -> u8 {
         match self {
             TidyFault::Short => 6,
             TidyFault::Unbound => 14,
         }
     }
 
-    /// What is returned with it: the records that a sheet must have, or nothing.
-    pub fn returned(self) -> u8
-        ensures { result ≡ fault_returned self }
-    {
+    fn returned(&self) -> usize {
         match self {
             TidyFault::Short => 64,
             TidyFault::Unbound => 0,
@@ -60,17 +61,17 @@ fn is_bound(count: usize, sheet: &[Node]) -> bool
     is_query(&sheet[0..count], Stage::Bound(32))
 }
 
-// Why the first `count` records of the sheet are not tidied, if they are not.
-fn refusal(count: usize, sheet: &[Node]) -> Option<TidyFault>
-    ensures { result ≡ refused count sheet.now }
+// Whether the first `count` records of the sheet are tidied, or why they are not.
+fn check(count: usize, sheet: &[Node]) -> Result<(), TidyFault>
+    ensures { result_err result ≡ refused count sheet.now }
 {
     if sheet.len() < 64 {
-        return Some(TidyFault::Short);
+        return Err(TidyFault::Short);
     }
     if !is_bound(count, sheet) {
-        return Some(TidyFault::Unbound);
+        return Err(TidyFault::Unbound);
     }
-    None
+    Ok(())
 }
 
 // Tidies the query in the first `count` records of the sheet, which is not refused, and tells how many records it has then.
@@ -87,9 +88,7 @@ fn tidy_first(count: usize, sheet: &mut [Node]) -> usize
 fn tidy_records(count: usize, sheet: &mut [Node]) -> Result<usize, TidyFault>
     ensures { Answers count sheet.old sheet.new result }
 {
-    if let Some(fault) = refusal(count, sheet) {
-        return Err(fault);
-    }
+    check(count, sheet)?;
     Ok(tidy_first(count, sheet))
 }
 

@@ -1,14 +1,12 @@
-//! What the rules make of two parts of a whole.
+//! What a rule makes of two parts of a whole.
 
-use query::Kind;
+use crate::head::Head;
 
-/// What becomes of two parts of a whole.
+/// What becomes of two parts of a whole that a rule speaks of.
 #[derive(Clone, Copy)]
 pub(crate) enum Outcome {
-    /// No rule speaks of them.
-    Apart,
-    /// The later one goes, and the earlier one takes this kind and this number.
-    Joined(Kind, u8),
+    /// The later one goes, and the earlier one takes this head.
+    Joined(Head),
     /// With them the whole fits nothing.
     Dead,
 }

@@ -1,18 +1,17 @@
 //! The rule that applies to a whole, if one does.
 
-ghost use Rattle.std.specs.Prelude.{◌≡◌, ◌+◌, true, not, ◌&&◌, is_some, nat_lt};
+ghost use Rattle.std.specs.Prelude.{◌≡◌, true, not, ◌&&◌, is_some, nat_lt};
 ghost use Rattle.query.specs.Stands.{at as recordAt};
 ghost use Rattle.rules.specs.Applies.{gathers};
-ghost use Rattle.rules.specs.Places.{Stands, Kept};
 ghost use Rattle.query.specs.Kinds.{same_kind as sameKind};
 ghost use Rattle.query.specs.declared.node.Kind.TheVariants.{Concat};
 ghost use Rattle.tidy.specs.Changes.{strict, Alone, Joining, Changes, nested_become};
 
 use crate::change::Change;
 use crate::outcome::Outcome;
-use crate::pairs::{is_repeat, is_unordered};
+use crate::pairs::is_unordered;
+use crate::part::Part;
 use crate::search::{find_pair, find_part, pair_outcome};
-use crate::walk::{has_window, part_end, same_kind};
 use crate::wanted::Wanted;
 use query::{Kind, Node};
 
@@ -20,7 +19,7 @@ use query::{Kind, Node};
 fn is_gathering(kind: Kind) -> bool
     ensures { result ≡ gathers kind }
 {
-    same_kind(kind, Kind::Concat) || is_unordered(kind)
+    kind == Kind::Concat || is_unordered(kind)
 }
 
 // Whether the kind is exact or atleast.
@@ -30,53 +29,47 @@ fn is_strict(kind: Kind) -> bool
     matches!(kind, Kind::Exact | Kind::Atleast)
 }
 
-// What a rule makes of two of the parts of the whole at index i.
-fn joining_change(records: &[Node], i: usize) -> Option<Change>
-    requires stands { Stands records.now i }
-    requires gathers { gathers (recordAt records.now i).kind ≡ true }
-    ensures { Joining records.now i result }
+// What a rule makes of two of the parts of a whole.
+fn joining_change(part: Part) -> Option<Change>
+    requires gathers { gathers (recordAt part.records.now part.at).kind ≡ true }
+    ensures { Joining part.entry.records.now part.entry.at result }
 {
-    let node = records[i];
-    let Some((x, y)) = find_pair(records, node.kind, i + 1, node.parts) else {
-        return None;
-    };
-    match pair_outcome(records, node.kind, x, y) {
-        Outcome::Joined(kind, number) => Some(Change::Join {
-            earlier: x,
-            later: y,
-            kind,
-            number,
+    let whole = part.node().kind;
+    let (x, y) = find_pair(whole, part.parts())?;
+    match pair_outcome(whole, x, y)? {
+        Outcome::Joined(head) => Some(Change::Join {
+            earlier: x.at,
+            later: y.at,
+            head,
         }),
         Outcome::Dead => Some(Change::Clear),
-        Outcome::Apart => None,
     }
 }
 
 // Whether a concat with such a part that fits nothing, if it has one, fits nothing.
-fn clears(whole: Kind, empty: Option<usize>) -> bool
-    ensures { result ≡ (sameKind whole Concat && is_some empty) }
+fn clears(whole: Kind, empty: Option<Part>) -> bool
+    ensures { result ≡ (sameKind whole Concat && is_some empty.entry) }
 {
-    same_kind(whole, Kind::Concat) && empty.is_some()
+    whole == Kind::Concat && empty.is_some()
 }
 
-// What a rule makes of the any, concat, and, or at index i.
-fn gathering_change(records: &[Node], i: usize) -> Option<Change>
-    requires kept { Kept records.now i }
-    requires gathers { gathers (recordAt records.now i).kind ≡ true }
-    ensures { Changes records.now i result }
+// What a rule makes of an any, concat, and, or.
+fn gathering_change(part: Part) -> Option<Change>
+    requires gathers { gathers (recordAt part.records.now part.at).kind ≡ true }
+    ensures { Changes part.entry.records.now part.entry.at result }
 {
-    let node = records[i];
+    let node = part.node();
     if node.parts == 1 {
         return Some(Change::Lift);
     }
-    if let Some(j) = find_part(records, i + 1, node.parts, Wanted::Like(node.kind)) {
-        return Some(Change::Unnest(j));
+    if let Some(inner) = find_part(part.parts(), Wanted::Like(node.kind)) {
+        return Some(Change::Unnest(inner.at));
     }
-    let empty = find_part(records, i + 1, node.parts, Wanted::Empty);
+    let empty = find_part(part.parts(), Wanted::Empty);
     if clears(node.kind, empty) {
         return Some(Change::Clear);
     }
-    joining_change(records, i)
+    joining_change(part)
 }
 
 // Whether a repeat with this record has pieces and is seen alike from everywhere.
@@ -86,50 +79,44 @@ fn is_alone(node: Node, window: bool) -> bool
     is_strict(node.kind) && node.number > 0 && !window
 }
 
-// Whether an exact or atleast with pieces and without a window stands at index i.
-fn stands_alone(records: &[Node], i: usize) -> bool
-    requires stands { Stands records.now i }
-    ensures { Alone records.now i result }
+// Whether the part is an exact or atleast with pieces and without a window.
+fn stands_alone(part: Part) -> bool
+    ensures { Alone part.entry.records.now part.entry.at result }
 {
-    let end = part_end(records, i);
-    is_alone(records[i], has_window(&records[i + 1..end]))
+    is_alone(part.node(), part.has_window())
 }
 
 // What becomes of so many of a part that is a repeat or not, and stands alone or not.
 fn nested(number: u8, repeat: bool, alone: bool) -> Option<Change>
     ensures { result ≡ nested_become number repeat alone }
 {
-    if number > 1 && repeat {
-        return Some(Change::Clear);
+    match number {
+        0 => None,
+        1 => alone.then_some(Change::Lift),
+        _ => repeat.then_some(Change::Clear),
     }
-    if number == 1 && alone {
-        return Some(Change::Lift);
-    }
-    None
 }
 
-// What a rule makes of the exact or atleast at index i.
-fn repeat_change(records: &[Node], i: usize) -> Option<Change>
-    requires kept { Kept records.now i }
-    requires strict { strict (recordAt records.now i).kind ≡ true }
-    requires inner { Stands records.now (i + 1) }
-    ensures { Changes records.now i result }
+// What a rule makes of an exact or atleast.
+fn repeat_change(part: Part) -> Option<Change>
+    requires strict { strict (recordAt part.records.now part.at).kind ≡ true }
+    ensures { Changes part.entry.records.now part.entry.at result }
 {
-    let repeat = is_repeat(records[i + 1].kind);
-    nested(records[i].number, repeat, stands_alone(records, i + 1))
+    let (inner, _) = part.parts().split_first()?;
+    let repeat = inner.node().kind.is_repeat();
+    nested(part.node().number, repeat, stands_alone(inner))
 }
 
-// What a rule makes of the whole at index i.
-pub(crate) fn find_change(records: &[Node], i: usize) -> Option<Change>
-    requires kept { Kept records.now i }
-    ensures { Changes records.now i result }
+// What a rule makes of a query.
+pub(crate) fn find_change(part: Part) -> Option<Change>
+    ensures { Changes part.entry.records.now part.entry.at result }
 {
-    let kind = records[i].kind;
+    let kind = part.node().kind;
     if is_gathering(kind) {
-        return gathering_change(records, i);
+        return gathering_change(part);
     }
     if is_strict(kind) {
-        return repeat_change(records, i);
+        return repeat_change(part);
     }
     None
 }

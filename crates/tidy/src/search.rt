@@ -1,15 +1,16 @@
 //! The search for parts that a rule speaks of.
 
-ghost use Rattle.std.specs.Prelude.{◌≡◌, ℕ, List};
-ghost use Rattle.query.specs.Tree.{Query};
-ghost use Rattle.query.specs.declared.node.Node.{Node as Record};
-ghost use Rattle.rules.specs.Places.{Here, Stands, Stand, Finds};
-ghost use Rattle.tidy.specs.Outcomes.{of_pair, speaks, reach as reaches};
-ghost use Rattle.tidy.specs.Searches.{wants, wants_record, PartsCompare, Judges, Pairs};
+ghost use Rattle.std.specs.Prelude.{◌≡◌, is_some};
+ghost use Rattle.std.specs.Option.{option_map};
+ghost use Rattle.std.specs.List.{find};
+ghost use Rattle.query.specs.Stands.{at as recordAt};
+ghost use Rattle.tidy.specs.Rows.{place, places_of};
+ghost use Rattle.tidy.specs.Searches.{wants_record, pair_at, LieBoth, Pairs};
 
+use crate::head::Head;
 use crate::outcome::Outcome;
 use crate::pairs::outcome;
-use crate::walk::{equal_rows, part_end, same_kind};
+use crate::part::{Part, Row};
 use crate::wanted::Wanted;
 use query::{Kind, Node};
 
@@ -18,98 +19,53 @@ fn is_wanted(wanted: Wanted, node: Node) -> bool
     ensures { result ≡ wants_record wanted node }
 {
     match wanted {
-        Wanted::Like(kind) => same_kind(kind, node.kind),
-        Wanted::Empty => same_kind(node.kind, Kind::Any) && node.parts == 0,
+        Wanted::Like(kind) => kind == node.kind,
+        Wanted::Empty => node.kind == Kind::Any && node.parts == 0,
     }
 }
 
-// The index of the first wanted part among so many.
-pub(crate) fn find_part(records: &[Node], first: usize, parts: u8, wanted: Wanted) -> Option<usize>
-    requires stand { Stand records.now parts first }
-    ensures { Finds (wants wanted) records.now parts first result }
+// The first wanted part.
+pub(crate) fn find_part<'a>(mut parts: Row<'a>, wanted: Wanted) -> Option<Part<'a>>
+    ensures { option_map place result ≡ find (λ p. wants_record wanted (recordAt p.0 p.1)) (places_of parts.entry) }
 {
-    let mut next = first;
-    for k in 0..parts {
-        if is_wanted(wanted, records[next]) {
-            return Some(next);
-        }
-        next = part_end(records, next);
-    }
-    None
+    parts.find(|p| is_wanted(wanted, p.node()))
 }
 
-// Whether the parts of two queries are equal.
-fn same_parts(records: &[Node], x: usize, y: usize) -> bool
-    requires first { Stands records.now x }
-    requires second { Stands records.now y }
-    ensures { PartsCompare records.now x y result }
+// A record's kind and number.
+fn head(node: Node) -> Head
+    ensures { result ≡ record { kind = node.kind; number = node.number } }
 {
-    let parts = records[x].parts;
-    if parts != records[y].parts {
-        return false;
-    }
-    equal_rows(records, x + 1, y + 1, parts)
-}
-
-// What becomes of the two parts of a whole that stand at these indices.
-pub(crate) fn pair_outcome(records: &[Node], whole: Kind, x: usize, y: usize) -> Outcome
-    requires first { Stands records.now x }
-    requires second { Stands records.now y }
-    ensures { Judges records.now whole x y result }
-{
-    outcome(whole, records[x], records[y], same_parts(records, x, y))
-}
-
-// Whether a rule speaks of two parts with this outcome.
-fn is_spoken(outcome: Outcome) -> bool
-    ensures { result ≡ speaks outcome }
-{
-    !matches!(outcome, Outcome::Apart)
-}
-
-// The index of the first of so many parts that a rule joins with the one at index x.
-fn find_partner(records: &[Node], whole: Kind, x: usize, first: usize, parts: u8) -> Option<usize>
-    requires earlier { Stands records.now x }
-    requires stand { Stand records.now parts first }
-    ensures { (q : Query) (rest : List Record) → Here records.now x q rest → Finds (λ t. speaks (of_pair whole q t)) records.now parts first result }
-{
-    let mut next = first;
-    for k in 0..parts {
-        if is_spoken(pair_outcome(records, whole, x, next)) {
-            return Some(next);
-        }
-        next = part_end(records, next);
-    }
-    None
-}
-
-// How many of the parts behind one may be joined with it: in a concat only the next.
-fn reach(whole: Kind, left: u8) -> u8
-    ensures { result ≡ reaches whole left }
-{
-    match whole {
-        Kind::Concat => left.min(1),
-        _ => left,
+    Head {
+        kind: node.kind,
+        number: node.number,
     }
 }
 
-// The first two of so many parts that a rule joins.
-pub(crate) fn find_pair(
-    records: &[Node],
-    whole: Kind,
-    first: usize,
-    parts: u8,
-) -> Option<(usize, usize)>
-    requires stand { Stand records.now parts first }
-    ensures { Pairs whole records.now parts first result }
+// What becomes of two parts of a whole, where a rule speaks of them.
+pub(crate) fn pair_outcome(whole: Kind, x: Part, y: Part) -> Option<Outcome>
+    ensures { result ≡ pair_at whole (place x.entry) (place y.entry) }
 {
-    let mut x = first;
-    for k in 0..parts {
-        let next = part_end(records, x);
-        if let Some(y) = find_partner(records, whole, x, next, reach(whole, parts - k - 1)) {
+    outcome(whole, head(x.node()), head(y.node()), x.same_parts(y))
+}
+
+// The first of the parts that a rule joins with the one before them.
+fn find_partner<'a>(whole: Kind, x: Part, mut parts: Row<'a>) -> Option<Part<'a>>
+    ensures { option_map place result ≡ find (λ y. is_some (pair_at whole (place x.entry) y)) (places_of parts.entry) }
+{
+    parts.find(|y| pair_outcome(whole, x, *y).is_some())
+}
+
+// The first two of the parts that a rule joins.
+pub(crate) fn find_pair<'a>(whole: Kind, parts: Row<'a>) -> Option<(Part<'a>, Part<'a>)>
+    ensures lie { LieBoth parts.entry.records.now result }
+    ensures pair { Pairs whole parts.entry.records.now parts.entry.count parts.entry.at (option_map (λ p. (p.0.at, p.1.at)) result) }
+{
+    let mut row = parts;
+    while let Some((x, behind)) = row.split_first() {
+        if let Some(y) = find_partner(whole, x, behind.within(whole)) {
             return Some((x, y));
         }
-        x = next;
+        row = behind;
     }
     None
 }

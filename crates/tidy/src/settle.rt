@@ -5,6 +5,7 @@ ghost use Rattle.tidy.specs.Edits.{Steps};
 ghost use Rattle.tidy.specs.Promise.{Settles};
 
 use crate::edits::make;
+use crate::part::Part;
 use crate::rule::find_change;
 use query::Node;
 
@@ -18,7 +19,10 @@ fn step(sheet: &mut [Node], i: usize, levels: u8) -> Option<usize>
     for k in 0..parts {
         next = step(sheet, next, levels - 1)?;
     }
-    match find_change(sheet, i) {
+    match find_change(Part {
+        records: sheet,
+        at: i,
+    }) {
         Some(change) => {
             make(sheet, i, change);
             None

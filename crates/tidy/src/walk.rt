@@ -1,76 +1,141 @@
-//! Parts of a query where they lie: where one ends, and whether two are equal.
+//! What is seen of queries where they lie: where one ends, its parts one by one, and whether two have equal parts.
 
-ghost use Rattle.std.specs.Prelude.{◌≡◌};
-ghost use Rattle.query.specs.Kinds.{same_kind as sameKind};
-ghost use Rattle.rules.specs.Places.{Stands, Stand, Ends, Compares, Equal, same_record as sameRecord, any_window};
+ghost use Rattle.std.specs.Prelude.{◌≡◌, ◌+◌, drop};
+ghost use Rattle.std.specs.List.{list_all, zip};
+ghost use Rattle.std.specs.Iterator.{YieldsFirstBy, item_count};
+ghost use Rattle.query.specs.Stands.{at as recordAt};
+ghost use Rattle.rules.specs.Places.{size_first, inner as innerOf, same_inner, same_record as sameRecord, any_window};
+ghost use Rattle.tidy.specs.Outcomes.{reach as reaches};
+ghost use Rattle.tidy.specs.Rows.{place, places_of, SplitsOff};
 
+use crate::part::{Part, Row};
 use query::{Kind, Node};
-
-// The index after the part that stands at index i.
-pub(crate) fn part_end(records: &[Node], i: usize) -> usize
-    requires stands { Stands records.now i }
-    ensures { Ends records.now i result }
-{
-    let mut left: usize = 1;
-    let mut next = i;
-    while left > 0 {
-        left = left - 1 + records[next].parts as usize;
-        next += 1;
-    }
-    next
-}
-
-// Whether the two kinds are one.
-pub(crate) fn same_kind(k: Kind, l: Kind) -> bool
-    ensures { result ≡ sameKind k l }
-{
-    k.number() == l.number()
-}
 
 // Whether the records have one kind, one number and as many parts.
 pub(crate) fn same_record(x: Node, y: Node) -> bool
     ensures { result ≡ sameRecord x y }
 {
-    same_kind(x.kind, y.kind) && x.number == y.number && x.parts == y.parts
+    (x.kind, x.number, x.parts) == (y.kind, y.number, y.parts)
 }
 
-// Whether so many parts from index i on are equal to as many from index j on, record by record.
-pub(crate) fn equal_rows(records: &[Node], i: usize, j: usize, parts: u8) -> bool
-    requires first { Stand records.now parts i }
-    requires second { Stand records.now parts j }
-    ensures { Compares records.now parts i j result }
+// Whether the records are the same one by one, as far as both go.
+fn same_records(xs: &[Node], ys: &[Node]) -> bool
+    ensures { result ≡ list_all (λ p. sameRecord p.0 p.1) (zip xs.now ys.now) }
 {
-    let mut left = parts as usize;
-    let mut x = i;
-    let mut y = j;
-    while left > 0 {
-        if !same_record(records[x], records[y]) {
-            return false;
-        }
-        left = left - 1 + records[x].parts as usize;
-        x += 1;
-        y += 1;
+    xs.iter().zip(ys).all(|(x, y)| same_record(*x, *y))
+}
+
+impl<'a> Part<'a> {
+    // Its own record.
+    pub(crate) fn node(self) -> Node
+        ensures { result ≡ recordAt self.entry.records.now self.entry.at }
+    {
+        self.records[self.at]
     }
-    true
-}
 
-// Whether the part at index i is equal to the part at index j, wherever their words lie.
-pub(crate) fn equal_parts(records: &[Node], i: usize, j: usize) -> bool
-    requires first { Stands records.now i }
-    requires second { Stands records.now j }
-    ensures { Equal records.now i j result }
-{
-    equal_rows(records, i, j, 1)
-}
+    // The index after it.
+    pub(crate) fn end(self) -> usize
+        ensures { result ≡ self.entry.at + size_first 1 (drop self.entry.at self.entry.records.now) }
+    {
+        let mut left: usize = 1;
+        for next in self.at..self.records.len() {
+            if left == 0 {
+                return next;
+            }
+            left = left - 1 + self.records[next].parts as usize;
+        }
+        self.records.len()
+    }
 
-// Whether one of the records is a window.
-pub(crate) fn has_window(records: &[Node]) -> bool
-    ensures { result ≡ any_window records.now }
-{
-    for n in records {
-        if same_kind(n.kind, Kind::In) {
-            return true;
+    // The records of its parts.
+    fn inner(self) -> &'a [Node]
+        ensures { result.now ≡ innerOf self.entry.records.now self.entry.at }
+    {
+        &self.records[self.at + 1..self.end()]
+    }
+
+    // Its parts.
+    pub(crate) fn parts(self) -> Row<'a>
+        ensures records { result.records.now ≡ self.entry.records.now }
+        ensures first { result.at ≡ self.entry.at + 1 }
+        ensures count { result.count ≡ (recordAt self.entry.records.now self.entry.at).parts }
+    {
+        Row {
+            records: self.records,
+            at: self.at + 1,
+            count: self.node().parts,
         }
     }
-    false
+
+    // Whether there is a window inside.
+    pub(crate) fn has_window(self) -> bool
+        ensures { result ≡ any_window (innerOf self.entry.records.now self.entry.at) }
+    {
+        self.inner().iter().any(|n| n.kind == Kind::In)
+    }
+
+    // Whether the other has equal parts, wherever their words lie.
+    pub(crate) fn same_parts(self, other: Part) -> bool
+        ensures { result ≡ same_inner self.entry.records.now self.entry.at other.entry.records.now other.entry.at }
+    {
+        self.node().parts == other.node().parts && same_records(self.inner(), other.inner())
+    }
+}
+
+// How many of the parts behind one may be joined with it: in a concat only the next.
+fn reach(whole: Kind, left: u8) -> u8
+    ensures { result ≡ reaches whole left }
+{
+    match whole {
+        Kind::Concat => left.min(1),
+        _ => left,
+    }
+}
+
+impl<'a> Row<'a> {
+    // The first, and the others behind it.
+    pub(crate) fn split_first(self) -> Option<(Part<'a>, Row<'a>)>
+        ensures { SplitsOff self.entry result }
+    {
+        if self.count == 0 {
+            return None;
+        }
+        let first = Part {
+            records: self.records,
+            at: self.at,
+        };
+        let others = Row {
+            records: self.records,
+            at: first.end(),
+            count: self.count - 1,
+        };
+        Some((first, others))
+    }
+
+    // Those that may be joined with a part of the whole that stands before them.
+    pub(crate) fn within(self, whole: Kind) -> Row<'a>
+        ensures records { result.records.now ≡ self.entry.records.now }
+        ensures first { result.at ≡ self.entry.at }
+        ensures count { result.count ≡ reaches whole self.entry.count }
+    {
+        Row {
+            records: self.records,
+            at: self.at,
+            count: reach(whole, self.count),
+        }
+    }
+}
+
+impl<'a> Iterator for Row<'a> {
+    type Item = Part<'a>;
+
+    ghost next_gives = { YieldsFirstBy place places_of };
+
+    ghost remaining = { item_count places_of };
+
+    fn next(&mut self) -> Option<Part<'a>> {
+        let (first, others) = self.split_first()?;
+        *self = others;
+        Some(first)
+    }
 }

@@ -2,6 +2,7 @@
 
 use crate::sheet::{STRAY, bound, same_sheet};
 use query::{Kind, Node};
+use refusal::Refusal;
 use std::test::Fail;
 use text::BoundShape;
 use tidy::tidy;
@@ -17,7 +18,7 @@ fn refused(shape: &mut BoundShape, sheet: &mut [Node], before: &[Node], by: (u8,
     let Err(fault) = tidy(shape, sheet) else {
         return false;
     };
-    (fault.number(), fault.returned() as usize) == by
+    (fault.number(), fault.returned()) == by
         && shape.count() == count
         && same_sheet(sheet, before)
 }

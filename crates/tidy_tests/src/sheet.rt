@@ -31,7 +31,7 @@ pub fn bound(text: &[u8], sheet: &mut [Node]) -> Option<BoundShape> {
 
 fn same_record(x: Node, y: Node) -> bool {
     let words = x.place == y.place && x.length == y.length;
-    words && x.kind.number() == y.kind.number() && x.number == y.number && x.parts == y.parts
+    words && x.kind == y.kind && x.number == y.number && x.parts == y.parts
 }
 
 /// Whether two sheets hold the same records, their words too.

@@ -1,16 +1,7 @@
-use Rattle.std.proofs.Common.{◌+◌, set, sym, subst, arith}
-use Rattle.query.specs.declared.node.Node.{Node}
-use Rattle.tidy.proofs.Editing.{Cutting, cut_start, cut_step, cut_end}
+use Rattle.tidy.proofs.Editing.{cut_copied}
 use Rattle.tidy.proofs.edits.cut.Goals as goal
 
-pub loop-k-init : goal.loop-k-init
-loop-k-init c = cut_start c.args.sheet.now c.args.from c.args.to c.requires.order c.requires.inside
-
-pub loop-k-preserved : goal.loop-k-preserved
-loop-k-preserved c =
-    subst (λ (x : Node). Cutting c.args.sheet.now c.args.from c.args.to (c.loop-k.k + 1) (set c.loop-k.sheet c.loop-k.k x)) (sym c.behind.ensures)
-    (cut_step c.args.sheet.now c.args.from c.args.to c.requires.order c.requires.inside c.loop-k.k c.loop-k.sheet c.loop-k.auto.k
-    c.loop-k-test.true c.loop-k.invariant)
-
 pub returns : goal.returns
-returns c = cut_end c.args.sheet.now c.args.from c.args.to c.loop-k.k c.loop-k.sheet c.requires.order c.requires.inside (omega arith) c.loop-k.invariant
+returns c =
+    cut_copied c.args.sheet.now c.copy_within.new.self c.fill.new.self c.args.from c.args.to c.requires.order c.requires.inside
+    c.copy_within.ensures.len c.copy_within.ensures.after (c.fill.ensures.after (λ y e. e)) c.blank.ensures

@@ -18,6 +18,6 @@ unnest-requires c =
 
 pub join-requires : goal.join-requires
 join-requires c =
-    let r = join_room c.args.sheet.now c.args.i c.in-Join.earlier c.in-Join.later c.in-Join.kind c.in-Join.number
+    let r = join_room c.args.sheet.now c.args.i c.in-Join.earlier c.in-Join.later c.in-Join.head
     (subst (Makeable c.args.sheet.now c.args.i) c.in-Join.is c.requires.makeable) in
     record { whole = c.requires.makeable.0; earlier = r.0; later = r.2; some = r.1 }

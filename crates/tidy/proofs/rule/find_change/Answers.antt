@@ -1,13 +1,11 @@
-use Rattle.std.proofs.Common.{sym}
-use Rattle.tidy.proofs.Changing.{inner_stands, other_change}
+use Rattle.std.proofs.Common.{sym, ap, ◌∙◌}
+use Rattle.query.specs.declared.node.Node.{Node}
+use Rattle.rules.specs.Applies.{gathers}
+use Rattle.tidy.specs.Changes.{strict}
+use Rattle.tidy.proofs.Changing.{other_change}
 use Rattle.tidy.proofs.rule.find_change.Goals as goal
 
-pub repeat_change-requires : goal.repeat_change-requires
-repeat_change-requires c = record {
-  kept = c.requires.kept;
-  strict = sym c.if-is_strict.ensures;
-  inner = inner_stands c.args.records.now c.args.i (sym c.if-is_strict.ensures) c.requires.kept;
-}
-
 pub returns : goal.returns
-returns c = other_change c.args.records.now c.args.i (sym c.if-is_gathering.ensures) (sym c.if-is_strict.ensures)
+returns c =
+    other_change c.args.part.records.now c.args.part.at (sym (c.if-is_gathering.ensures ∙ ap (λ (x : Node). gathers x.kind) c.node-kind.ensures))
+    (sym (c.if-is_strict.ensures ∙ ap (λ (x : Node). strict x.kind) c.node-kind.ensures))

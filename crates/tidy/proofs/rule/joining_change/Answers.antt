@@ -1,28 +1,43 @@
-use Rattle.std.proofs.Common.{refl}
-use Rattle.tidy.proofs.Finding.{parts_stand}
-use Rattle.tidy.proofs.Changing.{pair_stands, join_change, clear_change, never_apart, nothing_joins}
+use Rattle.std.proofs.Common.{Some, None, sym, ap, ◌∙◌, subst}
+use Rattle.query.specs.declared.node.Node.{Node}
+use Rattle.tidy.specs.Changes.{Joining}
+use Rattle.tidy.proofs.Finding.{pairs_here, outcome_here}
+use Rattle.tidy.proofs.Changing.{join_change, clear_change, never_apart, nothing_joins}
 use Rattle.tidy.proofs.rule.joining_change.Goals as goal
 
-pub find_pair-requires : goal.find_pair-requires
-find_pair-requires c = record { stand = parts_stand c.args.records.now c.args.i c.requires.stands }
+pub returns-in_err-x : goal.returns-in_err-x
+returns-in_err-x c =
+    let whole = ap (λ (x : Node). x.kind) c.node-whole.ensures in
+    subst (Joining c.args.part.records.now c.args.part.at) (sym c.from_residual.ensures)
+    (nothing_joins c.args.part.records.now c.args.part.at
+    (pairs_here _ _ _ _ _ _ _ _ None whole c.parts.ensures.records c.parts.ensures.count c.parts.ensures.first c.in_err-x.ensures.pair))
 
-pub returns-in_default : goal.returns-in_default
-returns-in_default c = nothing_joins c.args.records.now c.args.i c.in_default.ensures
-
-pub pair_outcome-requires : goal.pair_outcome-requires
-pair_outcome-requires c =
-    let st = pair_stands c.args.records.now c.args.i c.in-Some.x c.in-Some.y c.requires.gathers c.in-Some.ensures c.requires.stands in
-    record { first = st.0; second = st.1 }
+pub returns-in_err-head : goal.returns-in_err-head
+returns-in_err-head c =
+    let whole = ap (λ (x : Node). x.kind) c.node-whole.ensures in
+    let records = c.parts.ensures.records in
+    let lie = c.in_ok-x.ensures.lie in
+    subst (Joining c.args.part.records.now c.args.part.at) (sym c.from_residual-in_err-head.ensures)
+    (never_apart c.args.part.records.now c.args.part.at c.in_ok-x.x.at c.in_ok-x.y.at c.requires.gathers
+    (pairs_here _ _ _ _ _ _ _ _ (Some (c.in_ok-x.x.at, c.in_ok-x.y.at)) whole records c.parts.ensures.count c.parts.ensures.first c.in_ok-x.ensures.pair) _
+    (outcome_here _ _ _ _ _ c.in_ok-x.x.at c.in_ok-x.y.at _ whole (lie.0 ∙ records) (lie.1 ∙ records) c.pair_outcome.ensures) c.in_err-head.was)
 
 pub returns-in-Joined : goal.returns-in-Joined
 returns-in-Joined c =
-    join_change c.args.records.now c.args.i c.in-Some.x c.in-Some.y c.requires.gathers c.in-Some.ensures _ c.in-Joined.ensures
-    c.in-Joined.kind c.in-Joined.number refl
+    let whole = ap (λ (x : Node). x.kind) c.node-whole.ensures in
+    let records = c.parts.ensures.records in
+    let lie = c.in_ok-x.ensures.lie in
+    join_change c.args.part.records.now c.args.part.at c.in_ok-x.x.at c.in_ok-x.y.at c.requires.gathers
+    (pairs_here _ _ _ _ _ _ _ _ (Some (c.in_ok-x.x.at, c.in_ok-x.y.at)) whole records c.parts.ensures.count c.parts.ensures.first c.in_ok-x.ensures.pair) _
+    (outcome_here _ _ _ _ _ c.in_ok-x.x.at c.in_ok-x.y.at _ whole (lie.0 ∙ records) (lie.1 ∙ records) c.in_ok-head.ensures)
+    c.in-Joined.head (ap Some c.in-Joined.is)
 
 pub returns-in-Dead : goal.returns-in-Dead
 returns-in-Dead c =
-    clear_change c.args.records.now c.args.i c.in-Some.x c.in-Some.y c.requires.gathers c.in-Some.ensures _ c.in-Dead.ensures refl
-
-pub returns-in-Apart : goal.returns-in-Apart
-returns-in-Apart c =
-    never_apart c.args.records.now c.args.i c.in-Some.x c.in-Some.y c.requires.gathers c.in-Some.ensures _ c.in-Apart.ensures refl
+    let whole = ap (λ (x : Node). x.kind) c.node-whole.ensures in
+    let records = c.parts.ensures.records in
+    let lie = c.in_ok-x.ensures.lie in
+    clear_change c.args.part.records.now c.args.part.at c.in_ok-x.x.at c.in_ok-x.y.at c.requires.gathers
+    (pairs_here _ _ _ _ _ _ _ _ (Some (c.in_ok-x.x.at, c.in_ok-x.y.at)) whole records c.parts.ensures.count c.parts.ensures.first c.in_ok-x.ensures.pair) _
+    (outcome_here _ _ _ _ _ c.in_ok-x.x.at c.in_ok-x.y.at _ whole (lie.0 ∙ records) (lie.1 ∙ records) c.in_ok-head.ensures)
+    (ap Some c.in-Dead.is)

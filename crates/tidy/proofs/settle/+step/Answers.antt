@@ -1,9 +1,10 @@
-use Rattle.std.proofs.Common.{◌-◌, List, Some, None, sym, refl, subst, arith}
+use Rattle.std.proofs.Common.{◌≡◌, ◌-◌, true, List, drop, Some, None, sym, refl, subst, arith}
 use Rattle.query.specs.declared.node.Node.{Node}
-use Rattle.rules.specs.Places.{Kept, KeptWithin}
+use Rattle.rules.specs.Places.{KeptWithin, stand_first}
 use Rattle.tidy.specs.Changes.{Changes}
 use Rattle.tidy.specs.Edits.{Makeable, Made, Steps}
-use Rattle.tidy.proofs.Stepping.{within_kept, within_deep, progress_start, next_within, step_inside, step_passed, step_change, step_changed, step_done}
+use Rattle.rules.proofs.Firsts.{stands_first}
+use Rattle.tidy.proofs.Stepping.{within_stands, within_deep, progress_start, next_within, step_inside, step_passed, step_change, step_changed, step_done}
 use Rattle.tidy.proofs.settle.+step.Goals as goal
 
 pub loop-k-init : goal.loop-k-init
@@ -33,11 +34,11 @@ returns-in_err-next t c =
     (step_inside c.args.levels c.args.sheet.now c.step.new.sheet c.args.i c.loop-k.k c.loop-k.next c.loop-k.invariant.1 c.loop-k-test.true
     (subst (λ (ns : List Node). Steps (c.args.levels - 1) ns c.step.new.sheet c.loop-k.next None) c.loop-k.invariant.0 c.in_err-next.ensures))
 
-pub find_change-requires : goal.find_change-requires
-find_change-requires t c = record {
-  kept =
-      subst (λ (ns : List Node). Kept ns c.args.i) (sym c.loop-k.invariant.0)
-      (within_kept c.args.levels c.args.sheet.now c.args.i c.requires.kept);
+pub invariant_of-find_change : goal.invariant_of-find_change
+invariant_of-find_change t c = record {
+  stands =
+      subst (λ (ns : List Node). stand_first 1 (drop c.args.i ns) ≡ true) (sym c.loop-k.invariant.0)
+      (stands_first c.args.sheet.now c.args.i (within_stands c.args.levels c.args.sheet.now c.args.i c.requires.kept));
 }
 
 pub make-requires : goal.make-requires
