@@ -1,13 +1,13 @@
 -- The words of specs/ for lists, read as the library's.
-use Rattle.std.proofs.Common.{◌≡◌, ℕ, suc, ◌+◌, Bool, true, false, cond, not, ◌&&◌, ◌||◌, List, [], ◌∷◌, map, length, take, Some, None, nat_lt, sym, refl, ap, ◌∙◌, arith}
-use Rattle.std.specs.List.{list_all, list_any, position_from, position_or_len, position}
+use Rattle.std.proofs.Common.{◌≡◌, ℕ, suc, ◌+◌, Bool, true, false, cond, not, ◌&&◌, List, [], ◌∷◌, map, length, take, Some, None, nat_lt, sym, refl, ap, ◌∙◌, arith}
+use Rattle.std.specs.List.{list_all, position_from, position_or_len, position}
 use Rattle.std.specs.Option.{unwrap_or}
 use Rattle.std.specs.Str.{bytes_eq}
 use Rattle.std.proofs.lemmas.Bool.{ltb-false}
 use Rattle.std.proofs.lemmas.List.Recursion.{same_from_clauses}
 use Rattle.std.proofs.lemmas.List.Sums.{prefix_len-le-length}
 use Rattle.alphabet.specs.Every.{every}
-use Rattle.alphabet.specs.Names.{is_letter, is_among, index_from}
+use Rattle.alphabet.specs.Names.{is_letter, index_from}
 use Rattle.alphabet.specs.Sheets.{letters_of}
 
 pub every_is : {X : Type 0} (test : X → Bool) (xs : List X) → every test xs ≡ list_all test xs
@@ -15,9 +15,6 @@ every_is test = same_from_clauses (every test) (list_all test) (λ x b. test x &
 
 -- X is what holds a word, and f gives the word
 module _ {X : Type 0} (f : X → List ℕ) (word : List ℕ) where
-  pub among_is : (xs : List X) → is_among (map f xs) word ≡ list_any (λ x. bytes_eq (f x) word) xs
-  among_is = same_from_clauses (λ xs. is_among (map f xs) word) (list_any (λ x. bytes_eq (f x) word)) (λ x b. bytes_eq (f x) word || b) refl (λ _ _. refl) (λ _ _. refl)
-
   pub index_is : (k : ℕ) (xs : List X) → index_from k (map f xs) word ≡ position_from (λ x. bytes_eq (f x) word) k xs
   index_is k [] = refl
   index_is k (x ∷ xs) = ap (cond (bytes_eq (f x) word) (Some k)) (index_is (k + 1) xs)
