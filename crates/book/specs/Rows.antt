@@ -1,77 +1,68 @@
--- Runs in a row of places, the newest first behind the free ones.
-use Rattle.std.specs.Prelude.{◌≡◌, ℕ, ◌+◌, ◌-◌, ◌<◌, ◌≤◌, Bool, true, ◌≢◌, List, [], ◌∷◌, length, get_or, drop, slice_index_or, slice_range, slice_set, refl}
-use Rattle.std.proofs.Common.{sym, ap, subst, subst₂, ◌∙◌, arith}
-use Rattle.std.proofs.lemmas.List.{drop_more, drop-set, drop_all, take_all, length-drop}
+-- The runs of a row, where it is known of the newest what it is.
+use Rattle.std.specs.Prelude.{◌≡◌, ℕ, ◌+◌, ◌-◌, ◌<◌, ◌≤◌, ◌≢◌, true, List, [], ◌∷◌, Option, Some, None, length, drop, slice_get, nat_le, refl}
+use Rattle.std.specs.List.{find}
+use Rattle.std.specs.Option.{MatchOption}
+use Rattle.std.proofs.Common.{sym, subst, ◌∙◌, ⊎_elim, arith, rules}
+use Rattle.std.proofs.lemmas.Bool.{cases_lt, le-leb, lt-leb, cond-true, cond-false}
 use Rattle.book.specs.declared.run.Run.{Run}
 use Rattle.book.specs.Runs.{past, left, formed, Pushed, Popped}
-use Rattle.book.specs.RunsLemmas.{opened, closed, formed_less, few, left_in, left_before, longer, begun, shorter, push_on, push_new, pop_on, pop_gone}
-
-abbrev pub blank : Run
-blank = record { start = 0; count = 0 }
+use Rattle.book.specs.RunsLemmas.{opened, closed, formed_less, few, left_in, left_before, longer, shorter, push_on, pop_on, pop_gone}
 
 pub formed_none : (n : ℕ) → formed n [] ≡ true
 unfolding formed
 formed_none n = refl
 
--- what is said of the step, by the test that was made
-pub said : (n : ℕ) (b c : Bool) (before after : List Run) → b ≡ c → Pushed n c before after → Pushed n b before after
-said n b c before after e h = subst (λ x. Pushed n x before after) (sym e) h
+pub split : (run : Run) (runs : List Run) → slice_get runs 0 ≡ Some run → runs ≡ run ∷ drop 1 runs
+split run [] first = search rules
+split run (newest ∷ runs) first = search rules
 
--- there is a run at the place: it is the newest
-module _ (n free : ℕ) (runs : List Run) (some : free < length runs) where
-  abbrev newest : Run
-  newest = slice_index_or runs free blank
+pub none_row : (n : ℕ) (runs : List Run) → slice_get runs 0 ≡ None → formed n runs ≡ true
+none_row n [] first = formed_none n
+none_row n (newest ∷ runs) first = search rules
 
-  split : drop free runs ≡ newest ∷ drop (free + 1) runs
-  split = drop_more runs free blank some
+-- a row's runs, as its newest and those before it
+module _ (n : ℕ) (run : Run) (runs : List Run) (first : slice_get runs 0 ≡ Some run) where
+  as_split : (m : ℕ) → formed m runs ≡ true → formed m (run ∷ drop 1 runs) ≡ true
+  as_split m f = subst (λ rs. formed m rs ≡ true) (split run runs first) f
 
-  pub on_row : formed n (drop free runs) ≡ true → past newest ≡ n → Pushed n true (drop free runs) (drop free (slice_set runs free (longer newest)))
+  pub on_row : formed n runs ≡ true → past run ≡ n → Pushed n true runs (longer run ∷ drop 1 runs)
   on_row f reaches =
-      subst₂ (Pushed n true) (sym split) (sym (drop-set runs free (longer newest) some)) (push_on n newest (drop (free + 1) runs) (rw split at f) reaches)
+      subst (λ rs. Pushed n true rs (longer run ∷ drop 1 runs)) (sym (split run runs first)) (push_on n run (drop 1 runs) (as_split n f) reaches)
 
-  pub less_row : formed (n + 1) (drop free runs) ≡ true → past newest ≤ n → formed n (drop free runs) ≡ true
-  less_row f low = rw split (formed_less n newest (drop (free + 1) runs) (rw split at f) low)
+  pub less_row : formed (n + 1) runs ≡ true → past run ≤ n → formed n runs ≡ true
+  less_row f low = subst (λ rs. formed n rs ≡ true) (sym (split run runs first)) (formed_less n run (drop 1 runs) (as_split (n + 1) f) low)
 
-  pub other_row : formed n (drop free runs) ≡ true → past newest ≢ n → formed (n - 1) (drop free runs) ≡ true
+  pub other_row : formed n runs ≡ true → past run ≢ n → formed (n - 1) runs ≡ true
   other_row f other =
-      let (more, low, rest) = opened n newest (drop (free + 1) runs) (rw split at f) in
-      rw split (closed (n - 1) newest (drop (free + 1) runs) more (omega arith) rest)
+      let (more, low, rest) = opened n run (drop 1 runs) (as_split n f) in
+      subst (λ rs. formed (n - 1) rs ≡ true) (sym (split run runs first)) (closed (n - 1) run (drop 1 runs) more (omega arith) rest)
 
-  pub some_row : formed n (drop free runs) ≡ true → 0 < newest.count
-  some_row f = (opened n newest (drop (free + 1) runs) (rw split at f)).0
+  pub some_row : formed n runs ≡ true → 0 < run.count
+  some_row f = (opened n run (drop 1 runs) (as_split n f)).0
 
-  pub shorter_row : formed (n + 1) (drop free runs) ≡ true → n < past newest → 1 < newest.count → Popped n (drop free runs) (drop free (slice_set runs free (shorter newest)))
+  pub shorter_row : formed (n + 1) runs ≡ true → n < past run → 1 < run.count → Popped n runs (shorter run ∷ drop 1 runs)
   shorter_row f reaches more =
-      subst₂ (Popped n) (sym split) (sym (drop-set runs free (shorter newest) some)) (pop_on n newest (drop (free + 1) runs) (rw split at f) reaches more)
+      subst (λ rs. Popped n rs (shorter run ∷ drop 1 runs)) (sym (split run runs first)) (pop_on n run (drop 1 runs) (as_split (n + 1) f) reaches more)
 
-  pub gone_row : formed (n + 1) (drop free runs) ≡ true → n < past newest → newest.count ≡ 1 → Popped n (drop free runs) (drop (free + 1) runs)
-  gone_row f reaches one = rw split (pop_gone n newest (drop (free + 1) runs) (rw split at f) reaches one)
-
-pub none_row : (n free : ℕ) (runs : List Run) → length runs ≤ free → formed n (drop free runs) ≡ true
-none_row n free runs none = rw drop_all (formed_none n)
-
--- a new run begins at the last free place
-pub new_row : (n free : ℕ) (runs : List Run) → 0 < free → free ≤ length runs → formed (n - 1) (drop free runs) ≡ true → Pushed n true (drop free runs) (drop (free - 1) (slice_set runs (free - 1) (begun n)))
-new_row n free runs more within f =
-    let place : free - 1 + 1 ≡ free = omega arith in
-    let is : drop (free - 1) (slice_set runs (free - 1) (begun n)) ≡ begun n ∷ drop free runs =
-    drop-set runs (free - 1) (begun n) (omega arith) ∙ ap (λ k. begun n ∷ drop k runs) place in
-    rw is (push_new n (drop free runs) f)
-
--- and there is one while fewer than 255 steps are over
-pub free_row : (n free : ℕ) (runs : List Run) → length runs ≡ 128 → n < 255 → formed n (drop free runs) ≡ true → 0 < free
-free_row n free runs long room f = let fits = few n (drop free runs) f in let left_over = length-drop free runs in omega arith
+  pub gone_row : formed (n + 1) runs ≡ true → n < past run → run.count ≡ 1 → Popped n runs (drop 1 runs)
+  gone_row f reaches one =
+      subst (λ rs. Popped n rs (drop 1 runs)) (sym (split run runs first)) (pop_gone n run (drop 1 runs) (as_split (n + 1) f) reaches one)
 
 -- the first run from the newest on that begins no later than the step tells what is left
-pub look_in : (places : List Run) (i t : ℕ) → i < length places → (get_or places i blank).start ≤ t → left (drop i places) t ≡ past (slice_index_or places i blank) - t
-look_in places i t inside h = rw (drop_more places i blank inside) (left_in (slice_index_or places i blank) (drop (i + 1) places) t h)
-
-pub look_on : (places : List Run) (i t : ℕ) → i < length places → t < (get_or places i blank).start → left (drop i places) t ≡ left (drop (i + 1) places) t
-look_on places i t inside h = rw (drop_more places i blank inside) (left_before (slice_index_or places i blank) (drop (i + 1) places) t h)
-
-pub look_out : (places : List Run) (i t : ℕ) → length places ≤ i → left (drop i places) t ≡ 0
+pub left_told : (runs : List Run) (t n : ℕ) (found : Option Run) → found ≡ find (λ run. nat_le run.start t) runs
+    → MatchOption found (n ≡ 0) (λ run. n ≡ past run - t) → n ≡ left runs t
 unfolding left
-look_out places i t past_all = rw drop_all refl
+left_told [] t n None is told = told
+left_told [] t n (Some run) is told = search rules
+left_told (newest ∷ runs) t n found is told =
+    ⊎_elim
+    (λ (before : t < newest.start).
+    left_told runs t n found (is ∙ cond-false (nat_le newest.start t) _ _ (lt-leb newest.start t before)) told ∙ sym (left_before newest runs t before))
+    (λ (here : newest.start ≤ t).
+    let run = subst (λ o. MatchOption o (n ≡ 0) (λ run. n ≡ past run - t)) (is ∙ cond-true (nat_le newest.start t) _ _ (le-leb newest.start t here)) told in
+    run ∙ sym (left_in newest runs t here))
+    (cases_lt t newest.start)
 
-pub whole : (free : ℕ) (runs : List Run) → length runs ≡ 128 → slice_range runs free 128 ≡ drop free runs
-whole free runs long = take_all (128 - free) (drop free runs) (simp length-drop (omega arith))
+-- a row has room for another run while fewer than 255 steps are over
+pub roomy_row : (n : ℕ) (runs : List Run) → n < 255 → formed n runs ≡ true → length runs < 128
+roomy_row n runs room f = let fits = few n runs f in omega arith

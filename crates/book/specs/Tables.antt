@@ -1,14 +1,15 @@
 -- The list of words that the runs of 32 symbols stand for. Assumes nothing.
-use Rattle.std.specs.Prelude.{◌≡◌, ℕ, true, List, [], map, drop, slice_index_or}
+use Rattle.std.specs.Prelude.{◌≡◌, ℕ, true, List, [], map, slice_index_or}
 use Rattle.std.specs.List.{range_with_len}
 use Rattle.word.specs.Words.{word_of}
+use Rattle.fixed.specs.Items.{piled}
 use Rattle.book.specs.declared.row.Row.{Row}
 use Rattle.book.specs.declared.run.Run.{Run}
 use Rattle.book.specs.Runs.{carried, formed}
 
--- the runs that a row holds: those behind its free places
+-- the runs that a row holds
 abbrev pub row_runs : Row → List Run
-row_runs row = drop row.free row.runs
+row_runs row = piled row.runs
 
 -- the runs of a symbol, which has its own row
 abbrev pub runs_of : List Row → ℕ → List Run

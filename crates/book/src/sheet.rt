@@ -1,74 +1,75 @@
 //! A run book with one word for each step.
 
-ghost use Rattle.std.specs.Prelude.{◌≡◌, ℕ, ◌^◌, ◌<◌, ◌≤◌, [], take, slice_index};
-ghost use Rattle.book.specs.Sheets.{short_take};
-ghost use Rattle.book.specs.Narrow.{narrow_take};
+ghost use Rattle.std.specs.Prelude.{◌≡◌, ℕ, ◌^◌, ◌<◌, [], length, drop, slice_index};
+ghost use Rattle.std.specs.List.{take_while};
+ghost use Rattle.word.specs.Words.{has};
+ghost use Rattle.fixed.specs.Items.{listed};
+ghost use Rattle.book.specs.Sheets.{short_listed};
 
 use crate::RunBook;
+use fixed::List;
 use word::carries;
 
 /// The words of the steps one after another. `run` looks at each word of the run and the one behind
 /// it; every other call looks at one word at most.
 #[derive(Drop)]
 pub struct WordSheet {
-    words: [u32; 255],
-    size: usize,
-    ghost short: { size ≤ 255 },
-    ghost narrow: { (t : ℕ) → slice_index words t < 2 ^ 32 },
+    words: List<u32, 255>,
+    ghost narrow: { (t : ℕ) → slice_index (listed words) t < 2 ^ 32 },
+}
+
+/// How many words from the step on, one after another, have the symbol.
+fn run_of(words: &[u32], symbol: u8, step: usize) -> usize
+    ensures { result ≡ length (take_while (λ word. has word symbol) (drop step words.now)) }
+{
+    words
+        .iter()
+        .skip(step)
+        .take_while(|word| carries(**word, symbol))
+        .count()
 }
 
 impl WordSheet {
     pub fn new() -> WordSheet
-        ensures { take result.size result.words ≡ [] }
+        ensures { listed result.words ≡ [] }
     {
         WordSheet {
-            words: [0; 255],
-            size: 0,
+            words: List::new(0),
         }
     }
 }
 
 impl RunBook for WordSheet {
-    ghost words = { λ b. take b.size b.words };
+    ghost words = { λ b. listed b.words };
 
-    ghost short = { λ b. short_take b.size b.words b.short };
+    ghost short = { λ b. short_listed b.words };
 
-    ghost narrow = { λ b. narrow_take b.size b.words b.narrow };
+    ghost narrow = { λ b. b.narrow };
 
     fn empty(&mut self) {
-        self.size = 0;
+        self.words.clear();
     }
 
     fn add(&mut self, word: u32) -> bool {
-        if self.size == 255 {
-            return false;
-        }
-        self.words[self.size] = word;
-        self.size += 1;
-        true
+        self.words.try_push(word).is_ok()
     }
 
     fn drop_last(&mut self) -> bool {
-        if self.size == 0 {
-            return false;
-        }
-        self.size -= 1;
-        true
+        self.words.pop().is_some()
     }
 
     fn size(&self) -> usize {
-        self.size
+        self.words.len()
     }
 
     fn mark(&mut self, symbol: u8, step: usize) -> bool {
-        step < self.size && carries(self.words[step], symbol)
+        self.words
+            .as_slice()
+            .get(step)
+            .is_some_and(|word| carries(*word, symbol))
     }
 
     fn run(&mut self, symbol: u8, step: usize) -> usize {
-        let mut end = step;
-        while end < self.size && carries(self.words[end], symbol) {
-            end += 1;
-        }
-        end - step
+        run_of(self.words.as_slice(), symbol, step)
     }
 }

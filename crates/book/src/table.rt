@@ -19,33 +19,10 @@ use word::carries;
 #[derive(Drop)]
 pub struct RunTable {
     rows: [Row; 32],
-    size: usize,
+    size: u8,
     ghost short: { size ≤ 255 },
     ghost long: { length rows ≡ 32 },
     ghost formed: { Formed size rows },
-}
-
-/// Says of each symbol whether the word of the step has it.
-fn push_all(rows: &mut [Row], step: usize, word: u32)
-    requires room { step < 255 }
-    requires long { length rows.old ≡ 32 }
-    requires formed { Formed step rows.old }
-    ensures { (j : ℕ) → j < 32 → Pushed step (has word j) (runs_of rows.old j) (runs_of rows.new j) }
-{
-    for symbol in 0..32 {
-        rows[symbol].push(step, carries(word, symbol as u8));
-    }
-}
-
-/// Forgets the step for each symbol.
-fn pop_all(rows: &mut [Row], step: usize)
-    requires long { length rows.old ≡ 32 }
-    requires formed { Formed (step + 1) rows.old }
-    ensures { (j : ℕ) → j < 32 → Popped step (runs_of rows.old j) (runs_of rows.new j) }
-{
-    for symbol in 0..32 {
-        rows[symbol].pop(step);
-    }
 }
 
 impl RunTable {
@@ -62,11 +39,9 @@ impl RunTable {
     fn left(&self, symbol: u8, step: usize) -> usize
         ensures { result ≡ run_from (table_words self.now.rows self.now.size) symbol step }
     {
-        if symbol < 32 {
-            self.rows[usize::from(symbol)].run(step)
-        } else {
-            0
-        }
+        self.rows
+            .get(usize::from(symbol))
+            .map_or(0, |row| row.run(step))
     }
 }
 
@@ -81,11 +56,14 @@ impl RunBook for RunTable {
         *self = RunTable::new();
     }
 
+    #[tactic(auto, using(crate::specs::TablesLemmas::size_is))]
     fn add(&mut self, word: u32) -> bool {
-        if self.size == 255 {
+        if self.size == u8::MAX {
             return false;
         }
-        push_all(&mut self.rows, self.size, word);
+        for (symbol, row) in self.rows.iter_mut().enumerate() {
+            row.push(self.size, carries(word, symbol as u8));
+        }
         self.size += 1;
         true
     }
@@ -95,14 +73,18 @@ impl RunBook for RunTable {
             return false;
         }
         self.size -= 1;
-        pop_all(&mut self.rows, self.size);
+        for row in self.rows.iter_mut() {
+            row.pop(self.size);
+        }
         true
     }
 
+    #[tactic(auto, using(crate::specs::TablesLemmas::size_is))]
     fn size(&self) -> usize {
-        self.size
+        usize::from(self.size)
     }
 
+    #[tactic(auto, using(crate::specs::Longest::marked_run))]
     fn mark(&mut self, symbol: u8, step: usize) -> bool {
         self.left(symbol, step) > 0
     }

@@ -2,76 +2,82 @@
 
 #![tactic(auto)]
 
-ghost use Rattle.std.specs.Prelude.{◌≡◌, ℕ, ◌^◌, ◌<◌, ◌≤◌, [], reverse, length, drop, slice_index};
+ghost use Rattle.std.specs.Prelude.{◌≡◌, ℕ, ◌^◌, ◌<◌, [], reverse, drop, length, slice_index};
+ghost use Rattle.std.specs.List.{take_while};
+ghost use Rattle.word.specs.Words.{has};
+ghost use Rattle.fixed.specs.Items.{piled};
 ghost use Rattle.own_book.specs.Piles.{pile_short, pile_narrow};
 
 use book::RunBook;
+use fixed::Stack;
 use word::carries;
 
-/// A pile that grows towards the first cell: the word of step t lies in cell 254 - t, and the
-/// cells below `top` are free.
+/// The words of the steps, the newest on top.
 #[derive(Drop)]
 pub struct Pile {
-    cells: [u32; 255],
-    top: usize,
-    ghost long: { length cells ≡ 255 },
-    ghost within: { top ≤ 255 },
-    ghost narrow: { (i : ℕ) → slice_index cells i < 2 ^ 32 },
+    words: Stack<u32, 255>,
+    ghost narrow: { (i : ℕ) → slice_index (piled words) i < 2 ^ 32 },
+}
+
+/// How many words from the step on, one after another, have the symbol.
+fn run_of(pile: &[u32], symbol: u8, step: usize) -> usize
+    ensures { result ≡ length (take_while (λ word. has word symbol) (drop step (reverse pile.now))) }
+{
+    pile.iter()
+        .rev()
+        .skip(step)
+        .take_while(|word| carries(**word, symbol))
+        .count()
 }
 
 impl Pile {
     pub fn new() -> Pile
-        ensures { reverse (drop result.top result.cells) ≡ [] }
+        ensures { reverse (piled result.words) ≡ [] }
     {
         Pile {
-            cells: [0; 255],
-            top: 255,
+            words: Stack::new(0),
         }
     }
 }
 
 impl RunBook for Pile {
-    ghost words = { λ b. reverse (drop b.top b.cells) };
+    ghost words = { λ b. reverse (piled b.words) };
 
-    ghost short = { λ b. pile_short b.cells b.top b.long };
+    ghost short = { λ b. pile_short b.words };
 
-    ghost narrow = { λ b. pile_narrow b.cells b.top b.long b.narrow };
+    ghost narrow = { λ b. pile_narrow (piled b.words) b.narrow };
 
     fn empty(&mut self) {
-        self.top = 255;
+        self.words.clear();
     }
 
     fn add(&mut self, word: u32) -> bool {
-        if self.top == 0 {
+        if self.words.len() == 255 {
             return false;
         }
-        self.top -= 1;
-        self.cells[self.top] = word;
+        self.words.push(word);
         true
     }
 
     fn drop_last(&mut self) -> bool {
-        if self.top == 255 {
-            return false;
-        }
-        self.top += 1;
-        true
+        self.words.pop().is_some()
     }
 
     fn size(&self) -> usize {
-        255 - self.top
+        self.words.len()
     }
 
     fn mark(&mut self, symbol: u8, step: usize) -> bool {
-        step < 255 - self.top && carries(self.cells[254 - step], symbol)
+        self.words
+            .as_slice()
+            .iter()
+            .rev()
+            .nth(step)
+            .is_some_and(|word| carries(*word, symbol))
     }
 
     fn run(&mut self, symbol: u8, step: usize) -> usize {
-        let mut end = step;
-        while end < 255 - self.top && carries(self.cells[254 - end], symbol) {
-            end += 1;
-        }
-        end - step
+        run_of(self.words.as_slice(), symbol, step)
     }
 }
 

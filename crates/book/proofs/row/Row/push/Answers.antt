@@ -1,32 +1,27 @@
-use Rattle.std.proofs.Common.{true, false, drop, sym, ◌∙◌, arith}
-use Rattle.book.specs.RunsLemmas.{push_off}
-use Rattle.book.specs.Rows.{said, on_row, new_row, other_row, none_row, free_row}
+use Rattle.std.proofs.Common.{◌-◌, sym, ◌∙◌, rules}
+use Rattle.fixed.specs.Items.{piled}
+use Rattle.book.specs.RunsLemmas.{push_off, push_new}
+use Rattle.book.specs.Rows.{on_row, other_row, none_row, roomy_row}
 use Rattle.book.proofs.row.Row.push.Goals as goal
-use Rattle.book.proofs.row.Row.push.Goals.{else-self-lt-MOST-via-then-self-lt-MOST+else-end-step, else-self-lt-MOST-via-else-self-lt-MOST}
+use Rattle.book.proofs.row.Row.push.Goals.{in_default-via-in-Some+else-end-from, in_default-via-in_default}
 
 pub returns-then-not-carried : goal.returns-then-not-carried
-returns-then-not-carried c =
-    let row = c.args.self.now in
-    said c.args.step c.args.carried false _ _ c.if-not-carried.true (push_off c.args.step (drop row.free row.runs) c.requires.formed)
+returns-then-not-carried c = rw c.if-not-carried.true (push_off c.args.step (piled c.args.self.now.runs) c.requires.formed)
 
-pub overflow_sub-self : goal.overflow_sub-self
-overflow_sub-self c =
-    let row = c.args.self.now in
-    free_row c.args.step row.free row.runs row.long c.requires.room c.requires.formed
+pub push-requires : goal.push-requires
+push-requires c = (search rules, roomy_row c.args.step (piled c.args.self.now.runs) c.requires.room c.requires.formed)
 
-pub returns-then-end-step : goal.returns-then-end-step
-returns-then-end-step c =
-    let row = c.args.self.now in
-    said c.args.step c.args.carried true _ _ c.if-not-carried.false
-    (on_row c.args.step row.free row.runs (omega arith) c.requires.formed (sym c.end.ensures ∙ c.if-end-step.true))
+pub returns-in-Some : goal.returns-in-Some
+returns-in-Some c =
+    rw (c.if-not-carried.false, c.turn.ensures) (on_row c.args.step c.in-Some.newest (piled c.args.self.now.runs) (search rules) c.requires.formed
+    (sym c.end.ensures ∙ c.if-end-from.true ∙ c.from.ensures))
 
-pub returns-else-self-lt-MOST : goal.returns-else-self-lt-MOST
-returns-else-self-lt-MOST c =
-    let row = c.args.self.now in
-    let begins = new_row c.args.step row.free row.runs (free_row _ row.free row.runs row.long c.requires.room c.requires.formed) (omega arith) in
-    said c.args.step c.args.carried true _ _ c.if-not-carried.false
-    (elim c.else-self-lt-MOST.branch [
-      | else-self-lt-MOST-via-then-self-lt-MOST+else-end-step w ↦
-          begins (other_row c.args.step row.free row.runs (omega (arith, w.if-self-lt-MOST)) c.requires.formed (λ e. w.if-end-step.false (w.end.ensures ∙ e)))
-      | else-self-lt-MOST-via-else-self-lt-MOST w ↦ begins (none_row _ row.free row.runs (omega (arith, w.if-self-lt-MOST)))
-    ])
+pub returns-in_default : goal.returns-in_default
+returns-in_default c =
+    let runs = piled c.args.self.now.runs in
+    rw (c.if-not-carried.false, c.push.ensures) (push_new c.args.step runs
+    (elim c.in_default.branch [
+      | in_default-via-in-Some+else-end-from w ↦
+          other_row c.args.step w.in-Some.newest runs (search rules) c.requires.formed (λ e. w.if-end-from.false (w.end.ensures ∙ e ∙ sym w.from.ensures))
+      | in_default-via-in_default w ↦ none_row (c.args.step - 1) runs (sym c.top.ensures ∙ w.in_default.is)
+    ]))

@@ -1,23 +1,10 @@
-use Rattle.std.proofs.Common.{take, sym, refl, ◌∙◌, arith, rules}
-use Rattle.book.specs.Longest.{run_more, run_ends}
-use Rattle.book.specs.Sheets.{marked_is, marked_past}
+use Rattle.std.proofs.Common.{◌∙◌, ap}
+use Rattle.book.specs.Words.{run_from}
+use Rattle.book.specs.Longest.{run_counted}
 use Rattle.book.proofs.sheet.WordSheetRunBook.run.Goals as goal
-use Rattle.book.proofs.sheet.WordSheetRunBook.run.Goals.{then-loop-end-test+else-carries, else-loop-end-test}
 
-pub loop-end-preserved : goal.loop-end-preserved
-loop-end-preserved c =
-    let b = c.args.self.now in
-    let end = c.loop-end.end in
-    let here = marked_is b.size b.words (search rules) c.args.symbol end c.loop-end-test.true in
-    (omega arith, run_more _ _ _ end c.loop-end.invariant.0 c.loop-end.invariant.1 (sym (c.if-carries.ensures ∙ here)))
-
-pub returns : goal.returns
-returns c =
-    let b = c.args.self.now in
-    let end = c.loop-end.end in
-    let ends = run_ends (take b.size b.words) c.args.symbol c.args.step end c.loop-end.invariant.0 c.loop-end.invariant.1 in
-    elim c.loop-end-test.branch [
-      | then-loop-end-test+else-carries w ↦
-          record { answer = ends (sym (w.if-carries.ensures ∙ marked_is b.size b.words (search rules) c.args.symbol end w.loop-end-test.true)); same = refl }
-      | else-loop-end-test w ↦ record { answer = ends (marked_past b.size b.words c.args.symbol end w.loop-end-test.false); same = refl }
-    ]
+pub returns-clause-answer : goal.returns-clause-answer
+returns-clause-answer c =
+    let symbol = c.args.symbol in
+    let step = c.args.step in
+    c.run_of.ensures ∙ run_counted c.as_slice.result.now symbol step ∙ ap (λ words. run_from words symbol step) c.as_slice.ensures.items
