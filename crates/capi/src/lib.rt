@@ -5,6 +5,7 @@
 use alphabet::Alphabet;
 use matcher::{fit, list};
 use query::Node;
+use refusal::Refusal;
 use shape::Stretch;
 use steps::Steps;
 use text::{BoundShape, bind, read, write};
@@ -49,9 +50,9 @@ fn given_steps(words: &[u8]) -> Result<Steps, Answer> {
     let mut steps = Steps::new();
     for word in words.chunks(4) {
         if let [a, b, c, d] = word {
-            if !steps.push(u32::from_le_bytes([*a, *b, *c, *d])) {
-                return Err(refused(12, 255));
-            }
+            steps
+                .push(u32::from_le_bytes([*a, *b, *c, *d]))
+                .map_err(|full| refused(full.number(), full.returned()))?;
         }
     }
     Ok(steps)

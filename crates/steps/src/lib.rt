@@ -2,72 +2,59 @@
 
 #![tactic(auto)]
 
-ghost use Rattle.std.specs.Prelude.{◌≡◌, ℕ, ◌≤◌, Bool, [], length, ◌==◌, nat_lt, slice_index};
+ghost use Rattle.std.specs.Prelude.{◌≡◌, ◌≤◌, [], length, slice_index};
 ghost use Rattle.word.specs.Words.{has};
-ghost use Rattle.steps.specs.Meaning.{steps_of, Pushed};
+ghost use Rattle.steps.specs.Meaning.{steps_of, room_left, with_step};
 
-mod steps;
+mod full;
 
-pub use steps::Steps;
+use fixed::List;
+pub use full::Full;
 
-// Whether no step can be added to so many.
-fn is_full(count: u8) -> bool
-    ensures { result ≡ (count == 255) }
-{
-    count == 255
+/// The words of at most 255 steps, in order.
+#[derive(Clone, Copy)]
+pub struct Steps {
+    words: List<u32, 255>,
 }
 
 impl Steps {
-    // How many steps are held.
-    fn held(&self) -> usize
-        ensures count { result ≡ self.now.count }
-        ensures few { result ≤ 255 }
-    {
-        self.count as usize
-    }
-
-    // Whether there is a step a.
-    fn has_step(&self, a: usize) -> bool
-        ensures here { result ≡ nat_lt a self.now.count }
-        ensures few { self.now.count ≤ 255 }
-    {
-        a < self.held()
-    }
-
     /// No steps.
+    #[tactic(auto, unfolding(crate::specs::Meaning::steps_of))]
     pub fn new() -> Steps
         ensures { steps_of result ≡ [] }
     {
         Steps {
-            words: [0; 255],
-            count: 0,
+            words: List::new(0),
         }
     }
 
-    /// Adds the word of a step at the end. Answers no, and changes nothing, where 255 are held.
-    pub fn push(&mut self, word: u32) -> bool
-        ensures { Pushed (steps_of self.old) word (steps_of self.new) result }
+    /// Adds the word of a step at the end, where there is room.
+    #[tactic(auto, unfolding(crate::specs::Meaning::steps_of))]
+    pub fn push(&mut self, word: u32) -> Result<(), Full>
+        ensures answer { result ≡ room_left (steps_of self.old) }
+        ensures after { steps_of self.new ≡ with_step (steps_of self.old) word }
     {
-        if is_full(self.count) {
-            return false;
-        }
-        self.words[self.count as usize] = word;
-        self.count += 1;
-        true
+        self.words.try_push(word)?;
+        Ok(())
     }
 
     /// How many steps there are.
+    #[tactic(auto, unfolding(crate::specs::Meaning::steps_of))]
     pub fn len(&self) -> usize
         ensures length { result ≡ length (steps_of self.now) }
         ensures few { result ≤ 255 }
     {
-        self.held()
+        self.words.len()
     }
 
     /// Whether there is a step a and its word has the symbol.
+    #[tactic(auto, using(word::proofs::Bits::has_none), unfolding(crate::specs::Meaning::steps_of))]
     pub fn carries(&self, a: usize, symbol: u8) -> bool
         ensures { result ≡ has (slice_index (steps_of self.now) a) symbol }
     {
-        self.has_step(a) && word::carries(self.words[a], symbol)
+        self.words
+            .as_slice()
+            .get(a)
+            .is_some_and(|word| word::carries(*word, symbol))
     }
 }

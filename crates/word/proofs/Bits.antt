@@ -1,16 +1,10 @@
 -- The bits of a word.
 use Rattle.std.proofs.Common.{◌≡◌, ℕ, zero, suc, ◌+◌, ◌-◌, ◌*◌, ◌/◌, ◌%◌, ◌^◌, ◌<◌, ◌≤◌, Bool, true, false, cond, eqb, sym, refl, ap, ◌∙◌, ⊎_elim, pow-suc, add-one, arith, pow_mono}
 use native.Mathlib.Nat.{pow-succ', add-mul-div_left, add-mul-mod_self_left, div-eq_of_lt, zero-div}
-use lib.Bits.{bit_and, and_mask}
 use lib.Pow.{high}
 use Rattle.std.proofs.lemmas.Nat.{pow_pos, pow-add}
 use Rattle.std.proofs.lemmas.Bool.{cases_eq}
 use Rattle.word.specs.Words.{has, word_of}
-
--- the test `(w >> j) & 1 == 1`
-pub has_test : (w j : ℕ) → eqb (bit_and (w / 2 ^ j) 1) 1 ≡ has w j
-unfolding has
-has_test w j = ap (λ m. eqb m 1) (and_mask (w / 2 ^ j) 1)
 
 -- a word of n bits has no symbol from n on
 pub has_past : (n w j : ℕ) → w < 2 ^ n → n ≤ j → has w j ≡ false

@@ -2,20 +2,13 @@
 
 #![tactic(auto)]
 
-ghost use Rattle.std.specs.Prelude.{◌≡◌, ◌/◌, ◌%◌, ◌^◌, ◌<◌, ◌==◌};
+ghost use Rattle.std.specs.Prelude.{◌≡◌};
 ghost use Rattle.word.specs.Words.{has};
 
-// Whether the symbol's bit is set.
-fn bit(word: u32, symbol: u8) -> bool
-    requires { symbol < 32 }
-    ensures { result ≡ (word / 2 ^ symbol % 2 == 1) }
-{
-    (word >> symbol) % 2 == 1
-}
-
 /// Whether the word has the symbol. No word has a symbol above 31.
+#[tactic(auto, unfolding(crate::specs::Words::has))]
 pub fn carries(word: u32, symbol: u8) -> bool
     ensures { result ≡ has word symbol }
 {
-    symbol < 32 && bit(word, symbol)
+    symbol < 32 && (word >> symbol) % 2 == 1
 }

@@ -1,12 +1,7 @@
 use Rattle.std.proofs.Common.{sym, ◌∙◌, arith}
 use Rattle.std.proofs.lemmas.Bool.{le-ltb}
-use Rattle.word.specs.Words.{has}
 use Rattle.word.proofs.Bits.{has_past}
 use Rattle.word.proofs.carries.Goals as goal
-
-pub returns-then-symbol-lt32 : goal.returns-then-symbol-lt32
-unfolding has
-returns-then-symbol-lt32 c = c.bit.ensures
 
 pub returns-else-symbol-lt32 : goal.returns-else-symbol-lt32
 returns-else-symbol-lt32 c =
