@@ -30,6 +30,7 @@ pub fn fill<B: RunBook>(book: &mut B)
 {
     let alphabet = Alphabet::new();
     book.empty();
+    // by position, which says that a value is a price; a `zip` of neighbours needs that of each value besides
     for i in 0..10usize {
         book.add(alphabet.word(&price(i), &price(i + 1)));
     }
