@@ -1,5 +1,5 @@
 -- The rows of a table.
-use Rattle.std.proofs.Common.{◌≡◌, ℕ, zero, suc, ◌+◌, ◌<◌, ◌≤◌, Bool, true, false, cond, ◌&&◌, ◌||◌, eqb, ltb, ◌⊎◌, ◌↔◌, List, [], ◌∷◌, length, get_or, set, replicate, Option, Some, None, Decides, sym, refl, ap, ◌∙◌, subst, ap₂, inl, inr, arith}
+use Rattle.std.proofs.Common.{◌≡◌, ℕ, zero, suc, ◌+◌, ◌-◌, ◌<◌, ◌≤◌, Bool, true, false, cond, ◌&&◌, ◌||◌, eqb, ltb, ◌⊎◌, ◌↔◌, List, [], ◌∷◌, length, get_or, set, replicate, Option, Some, None, Decides, sym, refl, ap, ◌∙◌, subst, ap₂, inl, inr, arith}
 use Rattle.std.proofs.lemmas.List.{get_or-set_same, get_or-set_other, get_or_past, get_or-replicate}
 use Rattle.std.proofs.lemmas.Bool.{cases_eq, cases_lt, eq-eqb, ne_eqb, lt-ltb, le-ltb, cond-true, cond-false, or_cases, or_left, or_right, false≢true}
 use Rattle.std.proofs.lemmas.Bool.Decides.{nat_tests}
@@ -8,6 +8,7 @@ use Rattle.std.specs.Option.{is_none}
 use Rattle.word.proofs.Bits.{has_none}
 use Rattle.ends.specs.declared.Ends.{Ends}
 use Rattle.ends.specs.Member.{member, nothing, Finds}
+use Rattle.ends.proofs.Listing.{left_none, left_first}
 use Rattle.tables.specs.declared.table.Table.{Table}
 use Rattle.tables.specs.Holds.{within, holds, Held, Joined}
 
@@ -138,6 +139,24 @@ Reached t (c ∷ cs) b = Held t c b ⊎ Reached t cs b
 -- what is gathered, with the rows of the starts that are left, gives the rows of all starts
 abbrev pub Gathered : (ℕ → Bool) → Table → (ℕ → Bool) → List ℕ → Type 0
 Gathered starts t all rest = (b : ℕ) → ((all b ≡ true) ⊎ Reached t rest b) ↔ ((c : ℕ) × (starts c ≡ true) × Held t c b)
+
+-- the start that is found, and those behind it
+abbrev pub ahead : (ℕ → Bool) → Option ℕ → List ℕ
+ahead starts (Some c) = c ∷ filter starts (range_with_len (c + 1) (256 - (c + 1)))
+ahead starts None = []
+
+pub left_ahead : (starts : ℕ → Bool) (b : ℕ) (r : Option ℕ) → Finds starts b r → filter starts (range_with_len b (256 - b)) ≡ ahead starts r
+left_ahead starts b (Some c) f = left_first starts b c f
+left_ahead starts b None f = left_none starts b f
+
+-- how many positions are left from the start that is found
+abbrev pub to_come : Option ℕ → ℕ
+to_come (Some c) = 256 - c
+to_come None = 0
+
+pub fewer : (starts : ℕ → Bool) (c : ℕ) (o r : Option ℕ) → o ≡ Some c → c < 256 → Finds starts (c + 1) r → to_come r < to_come o
+fewer starts c o (Some d) e l f = subst (λ (x : Option ℕ). to_come (Some d) < to_come x) (sym e) (let a = f.1.above in omega arith)
+fewer starts c o None e l f = subst (λ (x : Option ℕ). 0 < to_come x) (sym e) (omega arith)
 
 module _ (starts : ℕ → Bool) (t : Table) where
   reached_in : (d x b : ℕ) → Reached t (filter starts (range_with_len x d)) b → (c : ℕ) × (starts c ≡ true) × Held t c b
