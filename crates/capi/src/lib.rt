@@ -5,6 +5,7 @@
 use alphabet::Alphabet;
 use matcher::{fit, list};
 use query::Node;
+use refusal::Refusal;
 use shape::Stretch;
 use steps::Steps;
 use text::{BoundShape, bind, read, write};

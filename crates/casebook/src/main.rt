@@ -6,6 +6,7 @@ use alphabet::Alphabet;
 use book::{RunBook, WordSheet};
 use matcher::list;
 use query::Node;
+use refusal::Refusal;
 use shape::Stretch;
 use std::env;
 use std::io::Read;
