@@ -141,13 +141,13 @@ impl<'a> Sight<'a> {
             return out;
         }
         for a in 0..=self.to - len {
-            let windows = Windows {
+            let window = Windows {
                 walk: self.walk,
                 s: a,
                 len,
                 to: a + len,
             };
-            if windows.starts(i, levels).contains(a) {
+            if window.starts(i, levels).contains(a) {
                 out.insert(a);
             }
         }

@@ -9,46 +9,46 @@ use Rattle.walk.specs.Seeing.{line, fitting, fittings, Parts}
 use Rattle.walk.proofs.sight.+walk.Given as goal
 
 abbrev pub decreases-Sight::any : goal.decreases-Sight::any
-decreases-Sight::any l = 5 * l.levels + 4
+decreases-Sight::any l = 6 * l.levels + 5
 
 abbrev pub decreases-Sight::concat : goal.decreases-Sight::concat
-decreases-Sight::concat l = 5 * l.levels + 4
+decreases-Sight::concat l = 6 * l.levels + 5
 
 abbrev pub decreases-Sight::own_starts : goal.decreases-Sight::own_starts
-decreases-Sight::own_starts l = 5 * l.levels + 2
+decreases-Sight::own_starts l = 6 * l.levels + 2
 
 abbrev pub decreases-Sight::part : goal.decreases-Sight::part
-decreases-Sight::part l = 5 * l.levels + 2
+decreases-Sight::part l = 6 * l.levels + 2
 
 abbrev pub decreases-Sight::repeat : goal.decreases-Sight::repeat
-decreases-Sight::repeat l = 5 * l.levels + 4
+decreases-Sight::repeat l = 6 * l.levels + 5
 
 abbrev pub decreases-Sight::seen : goal.decreases-Sight::seen
-decreases-Sight::seen l = 5 * l.levels
+decreases-Sight::seen l = 6 * l.levels
 
 abbrev pub decreases-Sight::starts : goal.decreases-Sight::starts
-decreases-Sight::starts l = 5 * l.levels + 3
+decreases-Sight::starts l = 6 * l.levels + 4
 
 abbrev pub decreases-Sight::starts_from : goal.decreases-Sight::starts_from
-decreases-Sight::starts_from l = 5 * l.levels + 2
+decreases-Sight::starts_from l = 6 * l.levels + 3
 
 abbrev pub decreases-Sight::window : goal.decreases-Sight::window
-decreases-Sight::window l = 5 * l.levels + 4
+decreases-Sight::window l = 6 * l.levels + 5
 
 abbrev pub decreases-Windows::all : goal.decreases-Windows::all
-decreases-Windows::all l = 5 * l.levels + 4
+decreases-Windows::all l = 6 * l.levels + 5
 
 abbrev pub decreases-Windows::counted : goal.decreases-Windows::counted
-decreases-Windows::counted l = 5 * l.levels + 4
+decreases-Windows::counted l = 6 * l.levels + 5
 
 abbrev pub decreases-Windows::either : goal.decreases-Windows::either
-decreases-Windows::either l = 5 * l.levels + 4
+decreases-Windows::either l = 6 * l.levels + 5
 
 abbrev pub decreases-Windows::in_order : goal.decreases-Windows::in_order
-decreases-Windows::in_order l = 5 * l.levels + 4
+decreases-Windows::in_order l = 6 * l.levels + 5
 
 abbrev pub decreases-Windows::starts : goal.decreases-Windows::starts
-decreases-Windows::starts l = 5 * l.levels + 1
+decreases-Windows::starts l = 6 * l.levels + 1
 
 abbrev pub invariant-Sight::any-loop-k : goal.invariant-Sight::any-loop-k
 invariant-Sight::any-loop-k l =
