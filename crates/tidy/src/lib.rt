@@ -85,6 +85,7 @@ fn tidy_first(count: usize, sheet: &mut [Node]) -> usize
 }
 
 // Tidies the query in the first `count` records of the sheet, and tells how many records it has then, or why it is not tidied.
+// It takes a count, and no shape, since tests give it counts that no shape has.
 fn tidy_records(count: usize, sheet: &mut [Node]) -> Result<usize, TidyFault>
     ensures { Answers count sheet.old sheet.new result }
 {

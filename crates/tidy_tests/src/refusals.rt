@@ -18,9 +18,7 @@ fn refused(shape: &mut BoundShape, sheet: &mut [Node], before: &[Node], by: (u8,
     let Err(fault) = tidy(shape, sheet) else {
         return false;
     };
-    (fault.number(), fault.returned()) == by
-        && shape.count() == count
-        && same_sheet(sheet, before)
+    (fault.number(), fault.returned()) == by && shape.count() == count && same_sheet(sheet, before)
 }
 
 // Whether `(any up up)` is refused with this record in place of one of its own.

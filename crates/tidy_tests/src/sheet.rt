@@ -23,38 +23,20 @@ pub fn bound(text: &[u8], sheet: &mut [Node]) -> Option<BoundShape> {
     let Ok(shape) = bind(shape, sheet, text, &Alphabet::new()) else {
         return None;
     };
-    for i in shape.count()..sheet.len() {
-        sheet[i] = STRAY;
+    for n in sheet.iter_mut().skip(shape.count()) {
+        *n = STRAY;
     }
     Some(shape)
 }
 
-fn same_record(x: Node, y: Node) -> bool {
-    let words = x.place == y.place && x.length == y.length;
-    words && x.kind == y.kind && x.number == y.number && x.parts == y.parts
-}
-
 /// Whether two sheets hold the same records, their words too.
 pub fn same_sheet(one: &[Node], other: &[Node]) -> bool {
-    if one.len() != other.len() {
-        return false;
-    }
-    for (x, y) in one.iter().zip(other) {
-        if !same_record(*x, *y) {
-            return false;
-        }
-    }
-    true
+    one == other
 }
 
 // Whether all records but the first so many are blank.
 fn blank_behind(sheet: &[Node], count: usize) -> bool {
-    for n in sheet.iter().skip(count) {
-        if !same_record(*n, Node::blank()) {
-            return false;
-        }
-    }
-    true
+    sheet.iter().skip(count).all(|n| *n == Node::blank())
 }
 
 // Whether the query is written as this text.
