@@ -11,6 +11,7 @@ use std::io::{BufRead, BufReader};
 use text::read;
 
 // A record as it is printed.
+#[derive(Clone, Copy)]
 struct Printed<'a>(&'a Node);
 
 impl<'a> fmt::Display for Printed<'a> {
