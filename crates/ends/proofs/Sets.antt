@@ -97,20 +97,6 @@ abbrev pub right_of : ℕ → ℕ → ℕ → ℕ
 right_of word w b =
     cond (ltb w (b / 64)) 0 (cond (eqb w (b / 64)) (((word / 2 ^ (b % 64)) / 2 * 2) * 2 ^ (b % 64) % 2 ^ 64) word)
 
--- one number more is done
-pub one_more : (f : ℕ → ℕ → ℕ) (zs xs : List ℕ) (w v : ℕ) → w < length zs → v ≡ f (get_or zs w 0) w →
-    ((j : ℕ) → get_or zs j 0 ≡ cond (ltb j w) (f (get_or xs j 0) j) (get_or xs j 0)) →
-    (j : ℕ) → get_or (set zs w v) j 0 ≡ cond (ltb j (w + 1)) (f (get_or xs j 0) j) (get_or xs j 0)
-one_more f zs xs w v l e h j = elim (cases_eq j w) [
-  | inl s ↦
-      let was : get_or zs w 0 ≡ get_or xs w 0 = h w ∙ cond-false (ltb w w) _ _ (le-ltb w w (omega arith)) in
-      ap (λ (i : ℕ). get_or (set zs w v) i 0) s ∙ get_or-set_same zs w v 0 l ∙ e ∙ ap (λ (x : ℕ). f x w) was ∙ ap (λ (i : ℕ). f (get_or xs i 0) i) (sym s)
-      ∙ sym (cond-true (ltb j (w + 1)) _ _ (lt-ltb j (w + 1) (omega arith)))
-  | inr ne ↦
-      let t : ltb j w ≡ ltb j (w + 1) = grind (arith, nat_tests) in
-      get_or-set_other zs w j v 0 ne ∙ h j ∙ ap (λ (b : Bool). cond b (f (get_or xs j 0) j) (get_or xs j 0)) t
-]
-
 -- the positions right of b: of each number the bits alone that stand there
 pub kept_right : (zs xs : List ℕ) (w b : ℕ) → length xs ≤ w → w ≤ 4 →
     ((j : ℕ) → get_or zs j 0 ≡ cond (ltb j w) (right_of (get_or xs j 0) j b) (get_or xs j 0)) →

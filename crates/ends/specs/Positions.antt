@@ -11,4 +11,4 @@ members e = filter (member e) (range_with_len 0 256)
 
 -- those that are still to come
 abbrev pub left : Positions → List ℕ
-left p = filter (member p.ends) (range_with_len p.at (256 - p.at))
+left p = filter (member p.ends.now) (range_with_len p.at (256 - p.at))

@@ -74,6 +74,7 @@ impl Ends {
     pub fn len(&self) -> usize
         ensures { result ≡ tally 256 0 (member self.now) }
     {
+        // A loop: of the words of a chain the proof does not know that each has 64 bits.
         let mut total = 0;
         for word in &self.bits {
             total += word.count_ones() as usize;
@@ -102,21 +103,21 @@ impl Ends {
     }
 
     /// The positions of the set, the lowest first.
-    pub fn iter(&self) -> Positions
+    pub fn iter(&self) -> Positions<'_>
         ensures { left result ≡ members self.now }
     {
-        Positions { ends: *self, at: 0 }
+        Positions { ends: self, at: 0 }
     }
 }
 
-impl IntoIterator for &Ends {
+impl<'a> IntoIterator for &'a Ends {
     type Item = u8;
 
-    type IntoIter = Positions;
+    type IntoIter = Positions<'a>;
 
     ghost into_iter_gives = { λ e r. left r ≡ members e.now };
 
-    fn into_iter(self) -> Positions {
+    fn into_iter(self) -> Positions<'a> {
         self.iter()
     }
 }

@@ -7,12 +7,12 @@ use crate::Ends;
 
 /// The positions of a set from one on, the lowest first.
 #[derive(Clone, Drop)]
-pub struct Positions {
-    pub(crate) ends: Ends,
+pub struct Positions<'a> {
+    pub(crate) ends: &'a Ends,
     pub(crate) at: usize,
 }
 
-impl Iterator for Positions {
+impl<'a> Iterator for Positions<'a> {
     type Item = u8;
 
     ghost next_gives = { YieldsFirst left };

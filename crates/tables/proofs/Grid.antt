@@ -1,13 +1,14 @@
 -- The rows of a table.
-use Rattle.std.proofs.Common.{◌≡◌, ℕ, zero, suc, ◌+◌, ◌<◌, ◌≤◌, Bool, true, false, cond, ◌&&◌, ◌||◌, eqb, ltb, ◌⊎◌, ◌↔◌, List, [], ◌∷◌, length, get_or, set, replicate, Option, Some, None, Decides, sym, refl, ap, ◌∙◌, subst, ap₂, inl, inr, arith}
+use Rattle.std.proofs.Common.{◌≡◌, ℕ, zero, suc, ◌+◌, ◌-◌, ◌<◌, ◌≤◌, Bool, true, false, cond, ◌&&◌, ◌||◌, eqb, ltb, ◌⊎◌, ◌↔◌, List, [], ◌∷◌, length, get_or, set, replicate, Option, Some, None, Decides, sym, refl, ap, ◌∙◌, subst, ap₂, inl, inr, arith}
 use Rattle.std.proofs.lemmas.List.{get_or-set_same, get_or-set_other, get_or_past, get_or-replicate}
-use Rattle.std.proofs.lemmas.Bool.{cases_eq, cases_lt, eq-eqb, ne_eqb, lt-ltb, le-ltb, cond-true, cond-false, or_cases, or_left, or_right, eqb-true, false≢true}
+use Rattle.std.proofs.lemmas.Bool.{cases_eq, cases_lt, eq-eqb, ne_eqb, lt-ltb, le-ltb, cond-true, cond-false, or_cases, or_left, or_right, false≢true}
 use Rattle.std.proofs.lemmas.Bool.Decides.{nat_tests}
 use Rattle.std.specs.List.{filter, range_with_len}
 use Rattle.std.specs.Option.{is_none}
 use Rattle.word.proofs.Bits.{has_none}
 use Rattle.ends.specs.declared.Ends.{Ends}
 use Rattle.ends.specs.Member.{member, nothing, Finds}
+use Rattle.ends.proofs.Listing.{left_none, left_first}
 use Rattle.tables.specs.declared.table.Table.{Table}
 use Rattle.tables.specs.Holds.{within, holds, Held, Joined}
 
@@ -139,6 +140,24 @@ Reached t (c ∷ cs) b = Held t c b ⊎ Reached t cs b
 abbrev pub Gathered : (ℕ → Bool) → Table → (ℕ → Bool) → List ℕ → Type 0
 Gathered starts t all rest = (b : ℕ) → ((all b ≡ true) ⊎ Reached t rest b) ↔ ((c : ℕ) × (starts c ≡ true) × Held t c b)
 
+-- the start that is found, and those behind it
+abbrev pub ahead : (ℕ → Bool) → Option ℕ → List ℕ
+ahead starts (Some c) = c ∷ filter starts (range_with_len (c + 1) (256 - (c + 1)))
+ahead starts None = []
+
+pub left_ahead : (starts : ℕ → Bool) (b : ℕ) (r : Option ℕ) → Finds starts b r → filter starts (range_with_len b (256 - b)) ≡ ahead starts r
+left_ahead starts b (Some c) f = left_first starts b c f
+left_ahead starts b None f = left_none starts b f
+
+-- how many positions are left from the start that is found
+abbrev pub to_come : Option ℕ → ℕ
+to_come (Some c) = 256 - c
+to_come None = 0
+
+pub fewer : (starts : ℕ → Bool) (c : ℕ) (o r : Option ℕ) → o ≡ Some c → c < 256 → Finds starts (c + 1) r → to_come r < to_come o
+fewer starts c o (Some d) e l f = subst (λ (x : Option ℕ). to_come (Some d) < to_come x) (sym e) (let a = f.1.above in omega arith)
+fewer starts c o None e l f = subst (λ (x : Option ℕ). 0 < to_come x) (sym e) (omega arith)
+
 module _ (starts : ℕ → Bool) (t : Table) where
   reached_in : (d x b : ℕ) → Reached t (filter starts (range_with_len x d)) b → (c : ℕ) × (starts c ≡ true) × Held t c b
   reached_in zero x b h = absurd h
@@ -192,13 +211,6 @@ module _ (starts : ℕ → Bool) (t : Table) where
     ],
   )
 
-  -- all are gathered
-  pub gathered_all : (all : ℕ → Bool) → Gathered starts t all [] → (b : ℕ) → Decides (all b) ((c : ℕ) × (starts c ≡ true) × Held t c b)
-  gathered_all all g b = (
-    λ u. (g b).0 (inl u),
-    λ h. elim ((g b).1 h) [ inl u ↦ u | inr u ↦ absurd u ],
-  )
-
   -- the same over all rows
   pub rows_gathered : (all more : ℕ → Bool) (a : ℕ) → ((b : ℕ) → more b ≡ (all b || holds t a b)) →
       ((b : ℕ) → Decides (all b) ((x : ℕ) × (x < a) × Held t x b)) → (b : ℕ) → Decides (more b) ((x : ℕ) × (x < a + 1) × Held t x b)
@@ -212,30 +224,6 @@ module _ (starts : ℕ → Bool) (t : Table) where
       | inr n ↦ or_left (all b) (holds t a b) ((g b).1 (h.0, (let o = h.1 in omega arith), h.2))
     ],
   )
-
--- a set that takes one position more, just where it passes the test
-pub chosen_in : (P : ℕ → Type 0) (old new : ℕ → Bool) (k : ℕ) → P k → ((x : ℕ) → new x ≡ (eqb x k || old x)) →
-    ((x : ℕ) → Decides (old x) ((x < k) × P x)) → (x : ℕ) → Decides (new x) ((x < k + 1) × P x)
-chosen_in P old new k p m inv x = (
-  λ u. elim (or_cases (eqb x k) (old x) (sym (m x) ∙ u)) [
-    | inl h ↦ (let e = eqb-true x k h in (omega arith, subst P (sym e) p))
-    | inr h ↦ (let r = (inv x).0 h in let o = r.0 in (omega arith, r.1))
-  ],
-  λ h. m x ∙ elim (cases_eq x k) [
-    | inl e ↦ or_left (eqb x k) (old x) (eq-eqb x k e)
-    | inr n ↦ or_right (eqb x k) (old x) ((inv x).1 ((let o = h.0 in omega arith), h.1))
-  ],
-)
-
-pub chosen_out : (P : ℕ → Type 0) (old : ℕ → Bool) (k : ℕ) → (P k → ⊥) →
-    ((x : ℕ) → Decides (old x) ((x < k) × P x)) → (x : ℕ) → Decides (old x) ((x < k + 1) × P x)
-chosen_out P old k n inv x = (
-  λ u. (let r = (inv x).0 u in let o = r.0 in (omega arith, r.1)),
-  λ h. elim (cases_eq x k) [
-    | inl e ↦ absurd (n (subst P e h.1))
-    | inr ne ↦ (inv x).1 ((let o = h.0 in omega arith), h.1)
-  ],
-)
 
 -- a row without an end
 pub rests_none : (test : ℕ → Bool) (r : Option ℕ) → Finds test 0 r → is_none r ≡ true → (y : ℕ) → y < 256 → test y ≡ true → ⊥

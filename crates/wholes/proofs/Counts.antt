@@ -1,7 +1,7 @@
 -- Symbols, counts and windows as tables show them.
-use Rattle.std.proofs.Common.{◌≡◌, ℕ, zero, suc, ◌+◌, ◌-◌, ◌<◌, ◌≤◌, Bool, true, cond, ◌&&◌, ◌||◌, eqb, ltb, leb, List, ◌∷◌, ◌++◌, length, get_or, Decides, sym, refl, ap, ◌∙◌, subst, ap₂, inl, inr, arith}
+use Rattle.std.proofs.Common.{◌≡◌, ℕ, zero, suc, ◌+◌, ◌-◌, ◌<◌, ◌≤◌, Bool, true, cond, ◌||◌, eqb, ltb, leb, List, ◌∷◌, ◌++◌, length, get_or, Decides, sym, refl, ap, ◌∙◌, subst, ap₂, inl, inr, arith}
 use Rattle.std.proofs.lemmas.List.{get_or_past}
-use Rattle.std.proofs.lemmas.Bool.{or_cases, or_left, or_right, and_parts, and_from, false≢true, eqb-true, eq-eqb, cases_eq, cases_lt}
+use Rattle.std.proofs.lemmas.Bool.{and_parts, and_from, false≢true, eqb-true, eq-eqb, cases_lt}
 use Rattle.std.proofs.lemmas.Bool.Decides.{nat_tests, same_from_decides}
 use Rattle.word.specs.Words.{has}
 use Rattle.word.proofs.Bits.{has_none}
@@ -16,37 +16,6 @@ use Rattle.wholes.specs.declared.view.View.{View}
 use Rattle.wholes.specs.declared.view.View.TheVariants.{From}
 use Rattle.wholes.specs.declared.view.Many.{Many}
 use Rattle.wholes.specs.Shows.{seen_from, lowest, allowed, carrying, counting, windowed, Shows, Starts}
-
--- a stretch is put into a table, or passed over, where a test says so
-pub placed_in : (Q : ℕ → ℕ → Type 0) (old new : ℕ → ℕ → Bool) (a b : ℕ) → Q a b → ((y : ℕ) → Q a y → y ≡ b) →
-    ((x y : ℕ) → new x y ≡ ((eqb x a && eqb y b) || old x y)) →
-    ((x y : ℕ) → Decides (old x y) ((x < a) × Q x y)) → (x y : ℕ) → Decides (new x y) ((x < a + 1) × Q x y)
-placed_in Q old new a b q only m inv x y = (
-  λ u. elim (or_cases (eqb x a && eqb y b) (old x y) (sym (m x y) ∙ u)) [
-    | inl h ↦
-        (let p = and_parts (eqb x a) (eqb y b) h in
-        let d = eqb-true x a p.0 in
-        let e = eqb-true y b p.1 in
-        (omega arith, subst (λ (i : ℕ). Q i y) (sym d) (subst (λ (i : ℕ). Q a i) (sym e) q)))
-    | inr h ↦ (let r = (inv x y).0 h in let o = r.0 in (omega arith, r.1))
-  ],
-  λ h. m x y ∙ elim (cases_eq x a) [
-    | inl d ↦
-        or_left (eqb x a && eqb y b) (old x y)
-        (and_from (eqb x a) (eqb y b) (eq-eqb x a d) (eq-eqb y b (only y (subst (λ (i : ℕ). Q i y) d h.1))))
-    | inr n ↦ or_right (eqb x a && eqb y b) (old x y) ((inv x y).1 ((let o = h.0 in omega arith), h.1))
-  ],
-)
-
-pub placed_out : (Q : ℕ → ℕ → Type 0) (old : ℕ → ℕ → Bool) (a : ℕ) → ((y : ℕ) → Q a y → ⊥) →
-    ((x y : ℕ) → Decides (old x y) ((x < a) × Q x y)) → (x y : ℕ) → Decides (old x y) ((x < a + 1) × Q x y)
-placed_out Q old a none inv x y = (
-  λ u. (let r = (inv x y).0 u in let o = r.0 in (omega arith, r.1)),
-  λ h. elim (cases_eq x a) [
-    | inl d ↦ absurd (none y (subst (λ (i : ℕ). Q i y) d h.1))
-    | inr n ↦ (inv x y).1 ((let o = h.0 in omega arith), h.1)
-  ],
-)
 
 -- only a step of the line carries a symbol
 pub carried_within : (words : List ℕ) (a j : ℕ) → has (get_or words a 0) j ≡ true → a < length words
@@ -132,9 +101,6 @@ counted_starts P many s len to n a table rising out small past shown rises inv x
 pub one_further : (s len a k : ℕ) (old new : Bool) → s ≤ a → old ≡ (leb k (s + len) || ltb k (a + len)) → new ≡ (eqb k (a + len) || old) →
     new ≡ leb k (a + len)
 one_further s len a k old new l o e = e ∙ ap (λ (t : Bool). eqb k (a + len) || t) o ∙ grind (arith, nat_tests)
-
-pub further_kept : (s len a k : ℕ) (new : Bool) → s ≤ a → new ≡ leb k (a + len) → new ≡ (leb k (s + len) || ltb k ((a + 1) + len))
-further_kept s len a k new l e = e ∙ grind (arith, nat_tests)
 
 -- windows of a length, by their starts
 pub window_shows : (Q : Rule) (v : View) (starts : Ends) (len to n a : ℕ) (out : Table) → to ≤ n → to < a → Starts starts Q v len to →

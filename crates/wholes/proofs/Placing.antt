@@ -131,13 +131,6 @@ ends_more t reached more row xs x r l e m f w =
       ];
     }
 
--- all entries are first ends
-pub ends_small : (t : Table) (reached : ℕ → Bool) (xs : List (Option ℕ)) → EndsFrom t reached xs 0 → (k : ℕ) → place_of (get_or xs k None) ≤ 256
-ends_small t reached xs w k = elim (cases_lt k 256) [
-  | inl u ↦ (w.done k (omega arith) u).small
-  | inr g ↦ (let q = w.long in let e = ap place_of (get_or_past xs k None (omega arith)) in omega arith)
-]
-
 pub ends_all : (t : Table) (reached : ℕ → Bool) (xs : List (Option ℕ)) → EndsFrom t reached xs 0 → (x : ℕ) → x ≤ 256 → Earliest t x (place_of (get_or xs x None))
 ends_all t reached xs w x l = elim (cases_lt x 256) [
   | inl u ↦ w.done x (omega arith) u
