@@ -40,9 +40,7 @@ fn survey(records: &[Node], steps: &Steps) -> Table
         view: View::From(0),
         to: steps.len() as u8,
     };
-    let mut out = Table::empty();
-    sight.seen(0, 16, &mut out);
-    out
+    sight.seen(0, 16)
 }
 
 // Whether the query in the records fits the stretch.

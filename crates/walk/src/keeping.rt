@@ -79,11 +79,11 @@ fn keep_repeat(kept: &mut Kept, records: &[Node], steps: &Steps, i: usize)
 }
 
 // What the shape at record i fits, each stretch seen from its own start.
-fn found(kept: &Kept, records: &[Node], steps: &Steps, i: usize, out: &mut Table)
+fn found(kept: &Kept, records: &[Node], steps: &Steps, i: usize) -> Table
     requires stands { Stands 16 records.now Shape i }
     requires right { RightFrom kept.now records.now (steps_of steps.now) (i + 1) }
     requires ready { Ready kept.now records.now (steps_of steps.now) i }
-    ensures { Shows out.new (rule (steps_of steps.now) records.now i) Own (length (steps_of steps.now)) (length (steps_of steps.now)) }
+    ensures { Shows result (rule (steps_of steps.now) records.now i) Own (length (steps_of steps.now)) (length (steps_of steps.now)) }
 {
     let sight = Sight {
         walk: Walk {
@@ -95,7 +95,7 @@ fn found(kept: &Kept, records: &[Node], steps: &Steps, i: usize, out: &mut Table
         view: View::Own,
         to: steps.len() as u8,
     };
-    sight.seen(i, 16, out);
+    sight.seen(i, 16)
 }
 
 // Keeps what a shape fits, each stretch seen from its own start.
@@ -108,8 +108,7 @@ fn keep_own(kept: &mut Kept, records: &[Node], steps: &Steps, i: usize)
     if !records[i].kind.may_stand(Role::Shape) {
         return;
     }
-    let mut own = Table::empty();
-    found(kept, records, steps, i, &mut own);
+    let own = found(kept, records, steps, i);
     kept.entries[i].own = own;
 }
 

@@ -19,84 +19,83 @@ use wholes::View;
 impl<'a> Sight<'a> {
     // What the part at record i fits: from what is kept where each stretch is seen from its own start, else by going down.
     #[cycle(walk)]
-    fn part(&self, i: usize, levels: u8, out: &mut Table)
+    fn part(&self, i: usize, levels: u8) -> Table
         requires { Part self.now.walk levels Shape i }
-        ensures { Seen self.now out.new (fitting self.now.walk i) }
+        ensures { Seen self.now result (fitting self.now.walk i) }
     {
         match self.view {
-            View::From(_) => self.seen(i, levels, out),
-            View::Own => *out = *self.walk.own(i),
+            View::From(_) => self.seen(i, levels),
+            View::Own => *self.walk.own(i),
         }
     }
 
     /// What the query at record i fits.
     #[cycle(walk)]
-    pub fn seen(&self, i: usize, levels: u8, out: &mut Table)
+    pub fn seen(&self, i: usize, levels: u8) -> Table
         requires { Query self.now.walk levels Shape i }
-        ensures { Seen self.now out.new (fitting self.now.walk i) }
+        ensures { Seen self.now result (fitting self.now.walk i) }
     {
         let node = self.walk.records[i];
         match node.kind {
-            Kind::Symbol => *out = wholes::symbol(self.walk.steps, node.number, self.view, self.to),
-            Kind::Any => self.any(i + 1, node.parts, levels - 1, out),
-            Kind::Concat => self.concat(i + 1, node.parts, levels - 1, out),
-            Kind::In => self.window(i + 1, node.number, levels - 1, out),
-            _ => self.repeat(i, levels - 1, out),
+            Kind::Symbol => wholes::symbol(self.walk.steps, node.number, self.view, self.to),
+            Kind::Any => self.any(i + 1, node.parts, levels - 1),
+            Kind::Concat => self.concat(i + 1, node.parts, levels - 1),
+            Kind::In => self.window(i + 1, node.number, levels - 1),
+            _ => self.repeat(i, levels - 1),
         }
     }
 
     // One of the parts.
     #[cycle(walk)]
-    fn any(&self, first: usize, parts: u8, levels: u8, out: &mut Table)
+    fn any(&self, first: usize, parts: u8, levels: u8) -> Table
         requires { Parts self.now.walk levels Shape parts first }
-        ensures { Seen self.now out.new (one_of (fittings self.now.walk parts first)) }
+        ensures { Seen self.now result (one_of (fittings self.now.walk parts first)) }
     {
-        *out = Table::empty();
+        let mut out = Table::empty();
         let mut next = first;
         for k in 0..parts {
-            let mut table = Table::empty();
-            self.part(next, levels, &mut table);
-            out.union_with(&table);
+            out.union_with(&self.part(next, levels));
             next = self.walk.after(next);
         }
+        out
     }
 
     // The parts in sequence: the first as it is seen, each later one from its own start.
     #[cycle(walk)]
-    fn concat(&self, first: usize, parts: u8, levels: u8, out: &mut Table)
+    fn concat(&self, first: usize, parts: u8, levels: u8) -> Table
         requires stand { Parts self.now.walk levels Shape parts first }
         requires some { 1 ≤ parts }
-        ensures { Seen self.now out.new (sequence (fittings self.now.walk parts first)) }
+        ensures { Seen self.now result (sequence (fittings self.now.walk parts first)) }
     {
-        self.part(first, levels, out);
+        let mut out = self.part(first, levels);
         let mut next = self.walk.after(first);
         for k in 1..parts {
-            *out = out.then(self.walk.own(next));
+            out = out.then(self.walk.own(next));
             next = self.walk.after(next);
         }
+        out
     }
 
     // The repeat at record i: its first piece as it is seen, and what may follow it.
     #[cycle(walk)]
-    fn repeat(&self, i: usize, levels: u8, out: &mut Table)
+    fn repeat(&self, i: usize, levels: u8) -> Table
         requires repeats { repeats (at self.now.walk.records.now i).kind ≡ true }
         requires stands { Part self.now.walk levels Shape (i + 1) }
-        ensures { Seen self.now out.new (repeated (length (line self.now.walk)) (fitting self.now.walk (i + 1)) (manyOf (at self.now.walk.records.now i).kind (at self.now.walk.records.now i).number)) }
+        ensures { Seen self.now result (repeated (length (line self.now.walk)) (fitting self.now.walk (i + 1)) (manyOf (at self.now.walk.records.now i).kind (at self.now.walk.records.now i).number)) }
     {
         let many = many_of(self.walk.records[i]);
-        let mut opening = Table::empty();
-        self.part(i + 1, levels, &mut opening);
+        let opening = self.part(i + 1, levels);
         let kept = &self.walk.kept.entries[i];
-        *out = wholes::repeat(&opening, &kept.later, &kept.stops, many, self.view, self.to);
+        wholes::repeat(&opening, &kept.later, &kept.stops, many, self.view, self.to)
     }
 
     // The windows of a length of which the condition at record i holds.
     #[cycle(walk)]
-    fn window(&self, i: usize, len: u8, levels: u8, out: &mut Table)
+    fn window(&self, i: usize, len: u8, levels: u8) -> Table
         requires { Part self.now.walk levels Window i }
-        ensures { Seen self.now out.new (windowed (fitting self.now.walk i) len) }
+        ensures { Seen self.now result (windowed (fitting self.now.walk i) len) }
     {
-        *out = wholes::shifted(&self.starts(i, len, levels), len, self.to);
+        wholes::shifted(&self.starts(i, len, levels), len, self.to)
     }
 
     // The starts of the windows of a length of which the condition at record i holds.

@@ -10,7 +10,6 @@ use crate::many::many_of;
 use crate::sight::{Sight, Windows};
 use ends::Ends;
 use query::Kind;
-use tables::Table;
 use wholes::{Many, Reach, View};
 
 impl<'a> Windows<'a> {
@@ -40,9 +39,7 @@ impl<'a> Windows<'a> {
             view: View::From(self.s),
             to: self.to,
         };
-        let mut table = Table::empty();
-        sight.seen(i, levels, &mut table);
-        wholes::counted(&table, many, self.s, self.len, self.to)
+        wholes::counted(&sight.seen(i, levels), many, self.s, self.len, self.to)
     }
 
     // The starts of the windows of which all parts hold.
@@ -89,9 +86,7 @@ impl<'a> Windows<'a> {
         let mut reach = Reach::start();
         let mut next = first;
         for k in 0..parts {
-            let mut table = Table::empty();
-            sight.seen(next, levels, &mut table);
-            reach = reach.advance(&Reach::earliest(&table));
+            reach = reach.advance(&Reach::earliest(&sight.seen(next, levels)));
             next = self.walk.after(next);
         }
         reach.within(self.s, self.len, self.to)

@@ -38,4 +38,4 @@ seen-requires c = record { deep = omega arith; reached = omega arith; stands = (
 
 pub returns : goal.returns
 unfolding query_in
-returns c = subst (λ (n : ℕ). Shows c.seen.new.out (rule (steps_of c.args.steps.now) c.args.records.now 0) (From 0) n (length (steps_of c.args.steps.now))) c.len.ensures.length c.seen.ensures
+returns c = subst (λ (n : ℕ). Shows c.seen.result (rule (steps_of c.args.steps.now) c.args.records.now 0) (From 0) n (length (steps_of c.args.steps.now))) c.len.ensures.length c.seen.ensures

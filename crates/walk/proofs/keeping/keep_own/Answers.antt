@@ -30,8 +30,8 @@ returns-then-not-may_stand c = record {
   here = λ u d. absurd (false≢true (sym (sym c.may_stand.ensures ∙ c.if-not-may_stand.true) ∙ (opened 16 c.args.records.now Shape c.args.i (omega arith) u).kind_right));
 }
 
-pub found-requires : goal.found-requires
-found-requires c =
+pub found-own-requires : goal.found-own-requires
+found-own-requires c =
     let up = in_role 16 c.args.records.now c.requires.stands.0 Shape c.args.i (sym c.may_stand.ensures ∙ c.if-not-may_stand.false) c.requires.stands.1 in
     record { stands = up; right = c.requires.right; ready = c.requires.ready }
 
@@ -39,4 +39,4 @@ pub returns : goal.returns
 returns c =
     let o = opened 16 c.args.records.now c.requires.stands.0 c.args.i (omega arith) c.requires.stands.1 in
     let f = c.requires.right.few in
-    own_kept c.args.kept.now _ c.args.i _ (omega arith) refl c.args.records.now (steps_of c.args.steps.now) c.index-kept-i.result refl refl refl c.found.ensures
+    own_kept c.args.kept.now _ c.args.i _ (omega arith) refl c.args.records.now (steps_of c.args.steps.now) c.index-kept-i.result refl refl refl c.found-own.ensures

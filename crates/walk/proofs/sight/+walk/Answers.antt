@@ -29,7 +29,7 @@ pub Sight::any-loop-k-preserved : goal.Sight::any-loop-k-preserved
 Sight::any-loop-k-preserved t c =
     let p = one_part c.args.self.now.walk c.args.levels Shape (c.args.parts - c.loop-k.k) (c.args.parts - (c.loop-k.k + 1)) c.loop-k.next c.after-next.result (omega arith) c.after-next.ensures c.loop-k.invariant.0 in (
       p.left,
-      either_more (fittings c.args.self.now.walk c.args.parts c.args.first) c.args.self.now.view c.args.self.now.to (length (line c.args.self.now.walk)) (fitting c.args.self.now.walk c.loop-k.next) (fittings c.args.self.now.walk (c.args.parts - (c.loop-k.k + 1)) c.after-next.result) c.loop-k.out c.part.new.out c.union_with.new.self c.args.self.now.high c.part.ensures c.union_with.ensures
+      either_more (fittings c.args.self.now.walk c.args.parts c.args.first) c.args.self.now.view c.args.self.now.to (length (line c.args.self.now.walk)) (fitting c.args.self.now.walk c.loop-k.next) (fittings c.args.self.now.walk (c.args.parts - (c.loop-k.k + 1)) c.after-next.result) c.loop-k.out c.part.result c.union_with.new.self c.args.self.now.high c.part.ensures c.union_with.ensures
           (subst (λ (R : List Rule). Either (fittings c.args.self.now.walk c.args.parts c.args.first) R c.args.self.now.view c.args.self.now.to (length (line c.args.self.now.walk)) c.loop-k.out) p.rules_are c.loop-k.invariant.1),
     )
 
@@ -37,8 +37,8 @@ pub Sight::any-returns : goal.Sight::any-returns
 Sight::any-returns t c =
     either_all (fittings c.args.self.now.walk c.args.parts c.args.first) c.args.self.now.view c.args.self.now.to (length (line c.args.self.now.walk)) c.loop-k.out (subst (λ (R : List Rule). Either (fittings c.args.self.now.walk c.args.parts c.args.first) R c.args.self.now.view c.args.self.now.to (length (line c.args.self.now.walk)) c.loop-k.out) (rules_none (line c.args.self.now.walk) c.args.self.now.walk.records.now (c.args.parts - c.loop-k.k) c.loop-k.next (omega arith)) c.loop-k.invariant.1)
 
-pub Sight::concat-part-requires : goal.Sight::concat-part-requires
-Sight::concat-part-requires t c =
+pub Sight::concat-part-out-requires : goal.Sight::concat-part-out-requires
+Sight::concat-part-out-requires t c =
     (omega arith, part_here c.args.self.now.walk c.args.levels Shape c.args.parts (c.args.parts - 1) c.args.first (let s = c.requires.some in omega arith) c.requires.stand)
 
 pub Sight::concat-after-next-requires : goal.Sight::concat-after-next-requires
@@ -62,7 +62,7 @@ Sight::concat-loop-k-preserved t c =
     let p = one_part c.args.self.now.walk c.args.levels Shape (c.args.parts - c.loop-k.k) (c.args.parts - (c.loop-k.k + 1)) c.loop-k.next c.after-next-in-loop-k.result (omega arith) c.after-next-in-loop-k.ensures c.loop-k.invariant.0 in (
       p.left,
       λ v s.
-          sequel_more v c.args.self.now.to (length (line c.args.self.now.walk)) c.args.self.now.high (fittings c.args.self.now.walk c.args.parts c.args.first) (fitting c.args.self.now.walk c.loop-k.next) (fittings c.args.self.now.walk (c.args.parts - (c.loop-k.k + 1)) c.after-next-in-loop-k.result) c.loop-k.out _ c.then.result c.own.ensures c.then.ensures
+          sequel_more v c.args.self.now.to (length (line c.args.self.now.walk)) c.args.self.now.high (fittings c.args.self.now.walk c.args.parts c.args.first) (fitting c.args.self.now.walk c.loop-k.next) (fittings c.args.self.now.walk (c.args.parts - (c.loop-k.k + 1)) c.after-next-in-loop-k.result) c.loop-k.out _ c.then-out.result c.own.ensures c.then-out.ensures
           (subst (λ (R : List Rule). Sequel (fittings c.args.self.now.walk c.args.parts c.args.first) R v c.args.self.now.to (length (line c.args.self.now.walk)) c.loop-k.out) p.rules_are (c.loop-k.invariant.1 v s)),
     )
 
@@ -70,9 +70,9 @@ pub Sight::concat-returns : goal.Sight::concat-returns
 Sight::concat-returns t c =
     let p = one_part c.args.self.now.walk c.args.levels Shape c.args.parts (c.args.parts - 1) c.args.first c.after-next.result (let s = c.requires.some in omega arith) c.after-next.ensures c.requires.stand in
     let left : List Rule = fittings c.args.self.now.walk (c.args.parts - 1) c.after-next.result in
-    let began : Sequel (fittings c.args.self.now.walk c.args.parts c.args.first) left c.args.self.now.view c.args.self.now.to (length (line c.args.self.now.walk)) c.part.new.out =
-    subst (λ (R : List Rule). Sequel R left c.args.self.now.view c.args.self.now.to (length (line c.args.self.now.walk)) c.part.new.out) (sym p.rules_are)
-    (sequel_start c.args.self.now.view c.args.self.now.to (length (line c.args.self.now.walk)) c.args.self.now.high (fitting c.args.self.now.walk c.args.first) left c.part.new.out c.part.ensures) in
+    let began : Sequel (fittings c.args.self.now.walk c.args.parts c.args.first) left c.args.self.now.view c.args.self.now.to (length (line c.args.self.now.walk)) c.part-out.result =
+    subst (λ (R : List Rule). Sequel R left c.args.self.now.view c.args.self.now.to (length (line c.args.self.now.walk)) c.part-out.result) (sym p.rules_are)
+    (sequel_start c.args.self.now.view c.args.self.now.to (length (line c.args.self.now.walk)) c.args.self.now.high (fitting c.args.self.now.walk c.args.first) left c.part-out.result c.part-out.ensures) in
     sequel_all c.args.self.now.view c.args.self.now.to (length (line c.args.self.now.walk)) c.args.self.now.high (fittings c.args.self.now.walk c.args.parts c.args.first) c.loop-k.out (subst (λ (R : List Rule). Sequel (fittings c.args.self.now.walk c.args.parts c.args.first) R c.args.self.now.view c.args.self.now.to (length (line c.args.self.now.walk)) c.loop-k.out) (rules_none (line c.args.self.now.walk) c.args.self.now.walk.records.now (c.args.parts - c.loop-k.k) c.loop-k.next (omega arith)) (c.loop-k.invariant.1 c.args.self.now.view began))
 
 pub Sight::part-own-requires : goal.Sight::part-own-requires
@@ -106,7 +106,7 @@ Sight::repeat-returns t c =
     c.index-self-i.result c.index-self-i.result (omega arith) c.requires.repeats up
     (λ later stops.
     subst (λ (m : Many). Seen c.args.self.now c.repeat.result (repeated n P m)) c.many_of-many.ensures
-    (c.repeat.ensures P n c.args.self.now.high (omega arith) c.part.ensures (later_as _ P _ _ n c.many_of-many.ensures later) stops))
+    (c.repeat.ensures P n c.args.self.now.high (omega arith) c.part-opening.ensures (later_as _ P _ _ n c.many_of-many.ensures later) stops))
 
 pub Sight::seen-offset_bounds-self-i : goal.Sight::seen-offset_bounds-self-i
 Sight::seen-offset_bounds-self-i t c =
@@ -197,23 +197,23 @@ Sight::seen-returns-in-Symbol t c =
 pub Sight::seen-returns-in-Any : goal.Sight::seen-returns-in-Any
 Sight::seen-returns-in-Any t c =
     let o = opened c.args.levels c.args.self.now.walk.records.now Shape c.args.i c.requires.deep c.requires.stands in
-    subst (Seen c.args.self.now c.any.new.out) (sym (as_any (line c.args.self.now.walk) c.args.levels c.args.self.now.walk.records.now Shape c.args.i o c.in-Any.is)) c.any.ensures
+    subst (Seen c.args.self.now c.any.result) (sym (as_any (line c.args.self.now.walk) c.args.levels c.args.self.now.walk.records.now Shape c.args.i o c.in-Any.is)) c.any.ensures
 
 pub Sight::seen-returns-in-Concat : goal.Sight::seen-returns-in-Concat
 Sight::seen-returns-in-Concat t c =
     let o = opened c.args.levels c.args.self.now.walk.records.now Shape c.args.i c.requires.deep c.requires.stands in
-    subst (Seen c.args.self.now c.concat.new.out) (sym (as_concat (line c.args.self.now.walk) c.args.levels c.args.self.now.walk.records.now Shape c.args.i o c.in-Concat.is)) c.concat.ensures
+    subst (Seen c.args.self.now c.concat.result) (sym (as_concat (line c.args.self.now.walk) c.args.levels c.args.self.now.walk.records.now Shape c.args.i o c.in-Concat.is)) c.concat.ensures
 
 pub Sight::seen-returns-in-In : goal.Sight::seen-returns-in-In
 Sight::seen-returns-in-In t c =
     let o = opened c.args.levels c.args.self.now.walk.records.now Shape c.args.i c.requires.deep c.requires.stands in
-    subst (Seen c.args.self.now c.window.new.out) (sym (as_in (line c.args.self.now.walk) c.args.levels c.args.self.now.walk.records.now Shape c.args.i o c.in-In.is)) c.window.ensures
+    subst (Seen c.args.self.now c.window.result) (sym (as_in (line c.args.self.now.walk) c.args.levels c.args.self.now.walk.records.now Shape c.args.i o c.in-In.is)) c.window.ensures
 
 pub Sight::seen-returns-in_default : goal.Sight::seen-returns-in_default
 Sight::seen-returns-in_default t c =
     let o = opened c.args.levels c.args.self.now.walk.records.now Shape c.args.i c.requires.deep c.requires.stands in
     let e = repeat_kind (query_at c.args.self.now.walk.records.now c.args.i).kind o.kind_right c.in_default.not-Symbol c.in_default.not-Any c.in_default.not-Concat c.in_default.not-In in
-    subst (Seen c.args.self.now c.repeat.new.out) (sym (as_repeat (line c.args.self.now.walk) c.args.levels c.args.self.now.walk.records.now c.args.i c.requires.deep o e).1) c.repeat.ensures
+    subst (Seen c.args.self.now c.repeat.result) (sym (as_repeat (line c.args.self.now.walk) c.args.levels c.args.self.now.walk.records.now c.args.i c.requires.deep o e).1) c.repeat.ensures
 
 pub Windows::all-starts-requires : goal.Windows::all-starts-requires
 Windows::all-starts-requires t c =
@@ -283,7 +283,7 @@ Windows::in_order-loop-k-preserved t c =
     let n = steps_few c.args.self.now.walk.steps.now in let h = c.args.self.now.high in
     let p = one_part c.args.self.now.walk c.args.levels Shape (c.args.parts - c.loop-k.k) (c.args.parts - (c.loop-k.k + 1)) c.loop-k.next c.after-next.result (omega arith) c.after-next.ensures c.loop-k.invariant.0 in (
       p.left,
-      reaches_more (fitting c.args.self.now.walk c.loop-k.next) (fittings c.args.self.now.walk c.args.parts c.args.first) (fittings c.args.self.now.walk (c.args.parts - (c.loop-k.k + 1)) c.after-next.result) c.args.self.now.s c.args.self.now.to (length (line c.args.self.now.walk)) c.seen.new.out (at c.loop-k.reach) (at c.advance-reach.result) (at c.earliest.result)
+      reaches_more (fitting c.args.self.now.walk c.loop-k.next) (fittings c.args.self.now.walk c.args.parts c.args.first) (fittings c.args.self.now.walk (c.args.parts - (c.loop-k.k + 1)) c.after-next.result) c.args.self.now.s c.args.self.now.to (length (line c.args.self.now.walk)) c.seen.result (at c.loop-k.reach) (at c.advance-reach.result) (at c.earliest.result)
           c.args.self.now.high (omega arith) c.seen.ensures c.earliest.ensures c.advance-reach.ensures c.advance-reach.result.small
           (subst (λ (R : List Rule). Reaches (fittings c.args.self.now.walk c.args.parts c.args.first) R c.args.self.now.s c.args.self.now.to (at c.loop-k.reach)) p.rules_are c.loop-k.invariant.1),
     )
