@@ -95,7 +95,7 @@ impl<'a> Sight<'a> {
         requires { Part self.now.walk levels Window i }
         ensures { Seen self.now result (windowed (fitting self.now.walk i) len) }
     {
-        wholes::shifted(&self.starts(i, len, levels), len, self.to)
+        wholes::shifted(&self.starts(i, len, levels), usize::from(len), self.to)
     }
 
     // The starts of the windows of a length of which the condition at record i holds.
@@ -112,17 +112,18 @@ impl<'a> Sight<'a> {
 
     // These starts seen from s.
     #[cycle(walk)]
-    fn starts_from(&self, i: usize, s: u8, len: u8, levels: u8) -> Ends
+    fn starts_from(&self, i: usize, s: usize, len: u8, levels: u8) -> Ends
         requires stands { Part self.now.walk levels Window i }
         requires low { s ≤ self.now.to }
         ensures { Starts result (fitting self.now.walk i) (From s) len self.now.to }
     {
-        if len > self.to - s {
+        let to = usize::from(self.to);
+        if s + usize::from(len) > to {
             return Ends::empty();
         }
         let windows = Windows {
             walk: self.walk,
-            s,
+            s: s as u8,
             len,
             to: self.to,
         };

@@ -36,7 +36,7 @@ impl<'a> Windows<'a> {
     {
         let sight = Sight {
             walk: self.walk,
-            view: View::From(self.s),
+            view: View::From(usize::from(self.s)),
             to: self.to,
         };
         wholes::counted(&sight.seen(i, levels), many, self.s, self.len, self.to)
@@ -48,7 +48,7 @@ impl<'a> Windows<'a> {
         requires { Parts self.now.walk levels Count parts first }
         ensures { Begun self.now result (all_of (fittings self.now.walk parts first)) }
     {
-        let mut out = wholes::range(self.s, self.to - self.len);
+        let mut out = wholes::range(usize::from(self.s), self.to - self.len);
         let mut next = first;
         for k in 0..parts {
             out.keep(&self.starts(next, levels));
@@ -80,7 +80,7 @@ impl<'a> Windows<'a> {
     {
         let sight = Sight {
             walk: self.walk,
-            view: View::From(self.s),
+            view: View::From(usize::from(self.s)),
             to: self.to,
         };
         let mut reach = Reach::start();

@@ -20,7 +20,7 @@ pub use windows::{counted, range, shifted};
 
 impl View {
     /// The first position at which stretches may begin.
-    pub fn lowest(self) -> u8
+    pub fn lowest(self) -> usize
         ensures { result ≡ lowest self }
     {
         match self {

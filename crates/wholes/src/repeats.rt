@@ -62,7 +62,8 @@ pub fn repeat(opening: &Table, later: &Table, stops: &Ends, many: Many, view: Vi
     };
     let null = many.allows(0);
     let mut out = Table::empty();
-    for a in view.lowest()..=to {
+    for a in view.lowest()..=usize::from(to) {
+        let a = a as u8;
         out.put(a, repeat_row(&first, &reached, later, stops, null, a));
     }
     out

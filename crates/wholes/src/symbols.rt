@@ -14,9 +14,9 @@ pub fn symbol(steps: &Steps, number: u8, view: View, to: u8) -> Table
     ensures { Shows result (carrying (steps_of steps.now) number) view to (length (steps_of steps.now)) }
 {
     let mut out = Table::empty();
-    for a in view.lowest()..to {
-        if steps.carries(usize::from(a), number) {
-            out.insert(a, a + 1);
+    for a in view.lowest()..usize::from(to) {
+        if steps.carries(a, number) {
+            out.insert(a as u8, a as u8 + 1);
         }
     }
     out

@@ -3,7 +3,7 @@
 /// From where each stretch is seen: from one position, or each from its own start.
 #[derive(Clone, Copy)]
 pub enum View {
-    From(u8),
+    From(usize),
     Own,
 }
 

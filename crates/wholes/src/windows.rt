@@ -11,12 +11,12 @@ use ends::Ends;
 use tables::Table;
 
 /// The positions from `low` up to `high`.
-pub fn range(low: u8, high: u8) -> Ends
+pub fn range(low: usize, high: u8) -> Ends
     ensures { (k : ℕ) → Decides (member result k) ((low ≤ k) × (k ≤ high)) }
 {
     let mut out = Ends::empty();
-    for k in low..=high {
-        out.insert(k);
+    for k in low..=usize::from(high) {
+        out.insert(k as u8);
     }
     out
 }
@@ -27,7 +27,7 @@ pub fn counted(table: &Table, many: Many, s: u8, len: u8, to: u8) -> Ends
     ensures { (P : Rule) (n : ℕ) → Shows table.now P (From s) to n → Starts result (counting P many) (From s) len to }
 {
     let rising = table.rising();
-    let mut within = range(s, s + len);
+    let mut within = range(usize::from(s), s + len);
     let mut out = Ends::empty();
     for a in s..=to - len {
         within.insert(a + len);
@@ -39,14 +39,14 @@ pub fn counted(table: &Table, many: Many, s: u8, len: u8, to: u8) -> Ends
 }
 
 /// The windows of a length that begin at these positions.
-pub fn shifted(starts: &Ends, len: u8, to: u8) -> Table
+pub fn shifted(starts: &Ends, len: usize, to: u8) -> Table
     requires { (a : ℕ) → member starts.now a ≡ true → a + len ≤ to }
     ensures { (Q : Rule) (v : View) (n : ℕ) → to ≤ n → Starts starts.now Q v len to → Shows result (windowed Q len) v to n }
 {
     let mut out = Table::empty();
     for a in 0..=to {
         if starts.contains(a) {
-            out.insert(a, a + len);
+            out.insert(a, (usize::from(a) + len) as u8);
         }
     }
     out

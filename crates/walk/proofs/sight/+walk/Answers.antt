@@ -6,7 +6,8 @@ use Rattle.shape.specs.Fits.{Rule}
 use Rattle.steps.proofs.Length.{steps_few}
 use Rattle.ends.specs.Member.{member}
 use Rattle.wholes.specs.declared.view.Many.{Many}
-use Rattle.wholes.specs.Shows.{repeated, counting}
+use Rattle.wholes.specs.declared.view.View.TheVariants.{From}
+use Rattle.wholes.specs.Shows.{repeated, counting, Shows}
 use Rattle.wholes.specs.Turns.{at}
 use Rattle.wholes.proofs.Joining.{Either, either_more, either_all, Sequel, sequel_start, sequel_more, sequel_all, AnyStart, any_start_more, any_start_all, AllStart, all_start_more, all_start_all}
 use Rattle.wholes.proofs.Placing.{Reaches, reaches_start, reaches_more, reaches_all}
@@ -259,7 +260,8 @@ Windows::either-returns t c =
 
 pub Windows::counted-returns : goal.Windows::counted-returns
 Windows::counted-returns t c =
-    c.counted.ensures (fitting c.args.self.now.walk c.args.i) (length (line c.args.self.now.walk)) c.seen.ensures
+    c.counted.ensures (fitting c.args.self.now.walk c.args.i) (length (line c.args.self.now.walk))
+    (subst (λ (s : ℕ). Shows c.seen.result (fitting c.args.self.now.walk c.args.i) (From s) c.args.self.now.to (length (line c.args.self.now.walk))) c.from.ensures c.seen.ensures)
 
 pub Windows::in_order-loop-k-init : goal.Windows::in_order-loop-k-init
 Windows::in_order-loop-k-init t c =
@@ -284,7 +286,7 @@ Windows::in_order-loop-k-preserved t c =
     let p = one_part c.args.self.now.walk c.args.levels Shape (c.args.parts - c.loop-k.k) (c.args.parts - (c.loop-k.k + 1)) c.loop-k.next c.after-next.result (omega arith) c.after-next.ensures c.loop-k.invariant.0 in (
       p.left,
       reaches_more (fitting c.args.self.now.walk c.loop-k.next) (fittings c.args.self.now.walk c.args.parts c.args.first) (fittings c.args.self.now.walk (c.args.parts - (c.loop-k.k + 1)) c.after-next.result) c.args.self.now.s c.args.self.now.to (length (line c.args.self.now.walk)) c.seen.result (at c.loop-k.reach) (at c.advance-reach.result) (at c.earliest.result)
-          c.args.self.now.high (omega arith) c.seen.ensures c.earliest.ensures c.advance-reach.ensures c.advance-reach.result.small
+          c.args.self.now.high (omega arith) (subst (λ (s : ℕ). Shows c.seen.result (fitting c.args.self.now.walk c.loop-k.next) (From s) c.args.self.now.to (length (line c.args.self.now.walk))) c.from.ensures c.seen.ensures) c.earliest.ensures c.advance-reach.ensures c.advance-reach.result.small
           (subst (λ (R : List Rule). Reaches (fittings c.args.self.now.walk c.args.parts c.args.first) R c.args.self.now.s c.args.self.now.to (at c.loop-k.reach)) p.rules_are c.loop-k.invariant.1),
     )
 
