@@ -1,11 +1,13 @@
 -- The stretches of a table, written into a buffer one after another.
-use Rattle.std.proofs.Common.{◌≡◌, ℕ, zero, suc, ◌+◌, ◌-◌, ◌<◌, ◌≤◌, min, Bool, true, false, cond, List, [], ◌∷◌, ◌++◌, length, get_or, drop, set, Decides, sym, refl, ap, ◌∙◌, subst, ap₂, append_assoc, append-nil, arith}
-use Rattle.std.proofs.lemmas.List.{length-append, length-drop, drop_more, set_at}
+use Rattle.std.proofs.Common.{◌≡◌, ℕ, zero, suc, ◌+◌, ◌-◌, ◌<◌, ◌≤◌, Bool, true, false, cond, ◌&&◌, ltb, List, [], ◌∷◌, ◌++◌, length, map, get_or, drop, set, Decides, sym, refl, ap, ◌∙◌, subst, ap₂, append_assoc, append-nil, inl, inr, arith}
+use Rattle.std.proofs.lemmas.List.{length-append, length-map, map-append, length-drop, drop_more, set_at}
+use Rattle.std.proofs.lemmas.Bool.{cases_Bool, lt-ltb, le-ltb, and_right, cond-false}
+use Rattle.std.specs.List.{filter, range_with_len}
 use Rattle.std.proofs.lemmas.Bool.Decides.{same_from_decides}
 use Rattle.shape.specs.declared.stretch.Stretch.{Stretch}
 use Rattle.shape.specs.Ranges.{stretch, row_from, rows_from, inside}
 use Rattle.shape.specs.Fits.{Rule}
-use Rattle.ends.specs.Member.{Next}
+use Rattle.ends.specs.Member.{tally}
 use Rattle.tables.specs.declared.table.Table.{Table}
 use Rattle.tables.specs.Holds.{holds, Held}
 use Rattle.tables.proofs.Sums.{rows_more}
@@ -14,64 +16,75 @@ use Rattle.wholes.specs.Shows.{Shows}
 use Rattle.wholes.proofs.Counts.{inside_same}
 use Rattle.matcher.specs.Answers.{Puts}
 
-module _ (test : ℕ → ℕ → Bool) (a : ℕ) where
-  row_append : (d e y : ℕ) → row_from (d + e) a y test ≡ row_from d a y test ++ row_from e a (y + d) test
-  unfolding row_from
-  row_append zero e y = let z : 0 + e ≡ e = omega arith in let x : y ≡ y + 0 = omega arith in ap₂ (λ (m k : ℕ). row_from m a k test) z x
-  row_append (suc d) e y =
+-- the positions that pass a test
+module _ (m : ℕ → Bool) where
+  skip_none : (d e x : ℕ) → ((k : ℕ) → x ≤ k → k < x + d → m k ≡ false) → filter m (range_with_len x (d + e)) ≡ filter m (range_with_len (x + d) e)
+  skip_none zero e x h = let z : 0 + e ≡ e = omega arith in let q : x ≡ x + 0 = omega arith in ap₂ (λ (y i : ℕ). filter m (range_with_len y i)) q z
+  skip_none (suc d) e x h =
       let z : suc d + e ≡ suc (d + e) = omega arith in
-      let x : suc y + d ≡ y + suc d = omega arith in
-      ap (λ (m : ℕ). row_from m a y test) z ∙ here (test a y) (row_append d e (suc y) ∙ ap (λ (k : ℕ). row_from d a (suc y) test ++ row_from e a k test) x)
+      let q : (x + 1) + d ≡ x + suc d = omega arith in
+      ap (λ (i : ℕ). filter m (range_with_len x i)) z ∙ cond-false (m x) _ _ (h x (omega arith) (omega arith))
+      ∙ skip_none d e (x + 1) (λ k l u. h k (omega arith) (omega arith)) ∙ ap (λ (y : ℕ). filter m (range_with_len y e)) q
+
+  none_listed : (d x : ℕ) → ((k : ℕ) → x ≤ k → k < x + d → m k ≡ false) → filter m (range_with_len x d) ≡ []
+  none_listed d x h = let z : d ≡ d + 0 = omega arith in ap (λ (i : ℕ). filter m (range_with_len x i)) z ∙ skip_none d 0 x h
+
+  -- there are as many as are counted
+  pub length_listed : (d x : ℕ) → tally d x m ≡ length (filter m (range_with_len x d))
+  unfolding tally
+  length_listed zero x = refl
+  length_listed (suc d) x =
+      let q : suc x ≡ x + 1 = omega arith in
+      ap (λ (c : ℕ). cond (m x) 1 0 + c) (ap (λ (y : ℕ). tally d y m) q ∙ length_listed d (x + 1)) ∙ here (m x)
     where
-      here : (t : Bool) → row_from (d + e) a (suc y) test ≡ row_from d a (suc y) test ++ row_from e a (y + suc d) test →
-          cond t (stretch a y ∷ row_from (d + e) a (suc y) test) (row_from (d + e) a (suc y) test)
-          ≡ cond t (stretch a y ∷ row_from d a (suc y) test) (row_from d a (suc y) test) ++ row_from e a (y + suc d) test
-      here true r = ap (λ (l : List Stretch). stretch a y ∷ l) r
+      here : (t : Bool) → cond t 1 0 + length (filter m (range_with_len (x + 1) d)) ≡ length (cond t (x ∷ filter m (range_with_len (x + 1) d)) (filter m (range_with_len (x + 1) d)))
+      here true = omega arith
+      here false = omega arith
+
+  listed : (test : ℕ → ℕ → Bool) (a d e x : ℕ) → ((k : ℕ) → x ≤ k → k < x + d → m k ≡ test a k) → ((k : ℕ) → x + d ≤ k → k < (x + d) + e → m k ≡ false) →
+      map (stretch a) (filter m (range_with_len x (d + e))) ≡ row_from d a x test
+  unfolding row_from
+  listed test a zero e x h o = ap (map (stretch a)) (none_listed (0 + e) x (λ k l u. o k (omega arith) (omega arith)))
+  listed test a (suc d) e x h o =
+      let z : suc d + e ≡ suc (d + e) = omega arith in
+      let q : x + 1 ≡ suc x = omega arith in
+      ap (λ (i : ℕ). map (stretch a) (filter m (range_with_len x i))) z
+      ∙ ap (λ (t : Bool). map (stretch a) (cond t (x ∷ filter m (range_with_len (x + 1) (d + e))) (filter m (range_with_len (x + 1) (d + e))))) (h x (omega arith) (omega arith))
+      ∙ here (test a x) (listed test a d e (x + 1) (λ k l u. h k (omega arith) (omega arith)) (λ k l u. o k (omega arith) (omega arith)) ∙ ap (λ (y : ℕ). row_from d a y test) q)
+    where
+      here : (t : Bool) → map (stretch a) (filter m (range_with_len (x + 1) (d + e))) ≡ row_from d a (suc x) test →
+          map (stretch a) (cond t (x ∷ filter m (range_with_len (x + 1) (d + e))) (filter m (range_with_len (x + 1) (d + e))))
+          ≡ cond t (stretch a x ∷ row_from d a (suc x) test) (row_from d a (suc x) test)
+      here true r = ap (λ (l : List Stretch). stretch a x ∷ l) r
       here false r = r
 
-  row_empty : (d y : ℕ) → ((k : ℕ) → y ≤ k → k < y + d → test a k ≡ false) → row_from d a y test ≡ []
-  unfolding row_from
-  row_empty zero y h = refl
-  row_empty (suc d) y h =
-      ap (λ (t : Bool). cond t (stretch a y ∷ row_from d a (suc y) test) (row_from d a (suc y) test)) (h y (omega arith) (omega arith))
-      ∙ row_empty d (suc y) (λ k l u. h k (omega arith) (omega arith))
+-- the stretches to the ends of a row right of its start and on the line
+pub row_listed : (test : ℕ → ℕ → Bool) (all right line row : ℕ → Bool) (a n : ℕ) → a < n → n < 256 → ((k : ℕ) → all k ≡ test a k) →
+    ((k : ℕ) → right k ≡ ((ltb a k && ltb k 256) && all k)) → ((k : ℕ) → Decides (line k) ((0 ≤ k) × (k ≤ n))) →
+    ((k : ℕ) → row k ≡ (right k && line k)) →
+    map (stretch a) (filter row (range_with_len 0 256)) ≡ row_from (n - a) a (suc a) test
+row_listed test all right line row a n l s held r on both =
+    let e : 256 ≡ suc a + ((n - a) + (255 - n)) = omega arith in
+    let z : 0 + suc a ≡ suc a = omega arith in
+    ap (λ (d : ℕ). map (stretch a) (filter row (range_with_len 0 d))) e
+    ∙ ap (map (stretch a)) (skip_none row (suc a) ((n - a) + (255 - n)) 0 (λ k u v. left k (omega arith)))
+    ∙ ap (λ (x : ℕ). map (stretch a) (filter row (range_with_len x ((n - a) + (255 - n))))) z
+    ∙ listed row test a (n - a) (255 - n) (suc a) (λ k u v. here k (omega arith) (omega arith)) (λ k u v. past k (omega arith))
+  where
+    and_true : (t : Bool) → (t && true) ≡ t
+    and_true true = refl
+    and_true false = refl
 
-  row_one : (d y : ℕ) → test a y ≡ true → row_from (suc d) a y test ≡ stretch a y ∷ row_from d a (suc y) test
-  unfolding row_from
-  row_one d y e = ap (λ (t : Bool). cond t (stretch a y ∷ row_from d a (suc y) test) (row_from d a (suc y) test)) e
+    left : (k : ℕ) → k ≤ a → row k ≡ false
+    left k u = both k ∙ ap (λ (t : Bool). t && line k) (r k ∙ ap (λ (t : Bool). (t && ltb k 256) && all k) (le-ltb a k u))
 
-  -- the stretches that end left of b, and at n at the latest
-  abbrev pub row_before : ℕ → ℕ → List Stretch
-  row_before n b = row_from (min b (suc n) - suc a) a (suc a) test
+    here : (k : ℕ) → a < k → k ≤ n → row k ≡ test a k
+    here k u v =
+        both k ∙ ap₂ (λ (t w : Bool). t && w) (r k ∙ ap₂ (λ (t w : Bool). (t && w) && all k) (lt-ltb a k u) (lt-ltb k 256 (omega arith)) ∙ held k) ((on k).1 (omega arith, v))
+        ∙ and_true (test a k)
 
-  pub row_start : (n b : ℕ) → Next (test a) (a + 1) b → [] ≡ row_before n b
-  row_start n b h = sym (row_empty (min b (suc n) - suc a) (suc a) (λ k l u. h.skipped k (omega arith) (omega arith)))
-
-  pub row_next : (n b c : ℕ) → a < b → b ≤ n → test a b ≡ true → Next (test a) (b + 1) c → row_before n b ++ stretch a b ∷ [] ≡ row_before n c
-  row_next n b c l u t h =
-      let o = h.above in
-      let e : min c (suc n) - suc a ≡ (min b (suc n) - suc a) + suc (min c (suc n) - suc b) = omega arith in
-      let f : suc a + (min b (suc n) - suc a) ≡ b = omega arith in
-      sym (ap (λ (d : ℕ). row_from d a (suc a) test) e ∙ row_append (min b (suc n) - suc a) (suc (min c (suc n) - suc b)) (suc a)
-      ∙ ap (λ (y : ℕ). row_before n b ++ row_from (suc (min c (suc n) - suc b)) a y test) f
-      ∙ ap (λ (l : List Stretch). row_before n b ++ l) (row_one (min c (suc n) - suc b) b t
-      ∙ ap (λ (l : List Stretch). stretch a b ∷ l) (row_empty (min c (suc n) - suc b) (suc b) (λ k v w. h.skipped k (omega arith) (omega arith)))))
-
-  pub row_end : (n b : ℕ) → n < b → row_before n b ≡ row_from (n - a) a (suc a) test
-  row_end n b l = let e : min b (suc n) - suc a ≡ n - a = omega arith in ap (λ (d : ℕ). row_from d a (suc a) test) e
-
-  -- there is room for one more
-  pub row_room : (n b : ℕ) → a < b → b ≤ n → test a b ≡ true → length (row_before n b) < length (row_from (n - a) a (suc a) test)
-  row_room n b l u t =
-      let e : n - a ≡ (min b (suc n) - suc a) + suc (n - b) = omega arith in
-      let f : suc a + (min b (suc n) - suc a) ≡ b = omega arith in
-      let s : row_from (n - a) a (suc a) test ≡ row_before n b ++ (stretch a b ∷ row_from (n - b) a (suc b) test) =
-      ap (λ (d : ℕ). row_from d a (suc a) test) e ∙ row_append (min b (suc n) - suc a) (suc (n - b)) (suc a)
-      ∙ ap (λ (y : ℕ). row_before n b ++ row_from (suc (n - b)) a y test) f
-      ∙ ap (λ (l : List Stretch). row_before n b ++ l) (row_one (n - b) b t) in
-      let g = ap length s in
-      let m = length-append (row_before n b) (stretch a b ∷ row_from (n - b) a (suc b) test) in
-      omega arith
+    past : (k : ℕ) → n < k → row k ≡ false
+    past k u = both k ∙ and_right (right k) (line k) (elim (cases_Bool (line k)) [ inl e ↦ absurd (let w = ((on k).0 e).1 in omega arith) | inr e ↦ e ])
 
 -- writing
 pub puts_none : (before : List Stretch) (place : ℕ) → Puts before before [] place
@@ -96,22 +109,21 @@ puts_one before now done place at y e l p xs base x h =
     ∙ sym (append_assoc ys (y ∷ []) (drop (length ys + 1) base))
     ∙ ap₂ (λ (zs : List Stretch) (i : ℕ). zs ++ drop i base) assoc (sym longer)
 
--- one more stretch of a row is written, and c is the next end
-pub row_goes_on : (test : ℕ → ℕ → Bool) (a n b c place next : ℕ) (before now : List Stretch) → a < b → b ≤ n → test a b ≡ true →
-    next ≡ place + length (row_before test a n b) → next < length now → Puts before now (row_before test a n b) place → Next (test a) (b + 1) c →
-    Puts before (set now next (stretch a b)) (row_before test a n c) place
-    × (next + 1 ≡ place + length (row_before test a n c)) × (a < c) × (c ≤ 256) × (c < 256 → test a c ≡ true)
-row_goes_on test a n b c place next before now l u t e m p h =
-    let s = row_next test a n b c l u t h in
-    let x = ap length s in
-    let y = length-append (row_before test a n b) (stretch a b ∷ []) in
-    let above = h.above in (
-      subst (λ (k : List Stretch). Puts before (set now next (stretch a b)) k place) s (puts_one before now (row_before test a n b) place next (stretch a b) e m p),
-      omega arith,
-      omega arith,
-      h.below,
-      h.found,
-    )
+-- there is room for one more
+pub row_room : (all done rest : List ℕ) (place i a b room : ℕ) → all ≡ done ++ b ∷ rest → length done ≡ i → place + length (map (stretch a) all) ≤ room →
+    place + i < room
+row_room all done rest place i a b room e d l =
+    let m = length-map all (stretch a) in
+    let n = ap length e ∙ length-append done (b ∷ rest) in
+    omega arith
+
+-- one more stretch of a row is written
+pub puts_more : (before now : List Stretch) (done : List ℕ) (place i a b : ℕ) → length done ≡ i → place + i < length now →
+    Puts before now (map (stretch a) done) place → Puts before (set now (place + i) (stretch a b)) (map (stretch a) (done ++ b ∷ [])) place
+puts_more before now done place i a b e l p =
+    let m = length-map done (stretch a) in
+    subst (λ (k : List Stretch). Puts before (set now (place + i) (stretch a b)) k place) (sym (map-append (stretch a) done (b ∷ [])))
+    (puts_one before now (map (stretch a) done) place (place + i) (stretch a b) (omega arith) l p)
 
 pub puts_then : (before mid after d e : List Stretch) (place at : ℕ) → at ≡ place + length d → Puts before mid d place → Puts mid after e at →
     Puts before after (d ++ e) place

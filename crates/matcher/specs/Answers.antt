@@ -1,5 +1,5 @@
 -- What a fit and a listing answer. Assumes nothing.
-use Rattle.std.specs.Prelude.{◌≡◌, ℕ, ◌<◌, ◌≤◌, Bool, cond, ◌&&◌, List, ◌++◌, length, take, drop, Ok, Err, Result, nat_le, nat_lt}
+use Rattle.std.specs.Prelude.{◌≡◌, ℕ, ◌<◌, ◌≤◌, Bool, cond, ◌&&◌, List, ◌++◌, length, map, take, drop, Ok, Err, Result, nat_le, nat_lt}
 use Rattle.query.specs.declared.node.Node.{Node}
 use Rattle.query.specs.declared.node.Stage.TheVariants.{Bound}
 use Rattle.query.specs.Tree.{Query}
@@ -7,6 +7,9 @@ use Rattle.query.specs.Stands.{is_query, query_in}
 use Rattle.shape.specs.declared.stretch.Stretch.{Stretch}
 use Rattle.shape.specs.Fits.{fits}
 use Rattle.shape.specs.Listing.{listing}
+use Rattle.shape.specs.Ranges.{stretch}
+use Rattle.ends.specs.declared.Ends.{Ends}
+use Rattle.ends.specs.Positions.{members}
 use Rattle.text.specs.declared.fault.SheetFault.{SheetFault}
 use Rattle.text.specs.declared.fault.SheetFault.TheVariants as sheet
 use Rattle.matcher.specs.declared.faults.FitFault.{FitFault}
@@ -97,3 +100,7 @@ ListsSheet symbols count sheet words before after r =
 abbrev pub Puts : List Stretch → List Stretch → List Stretch → ℕ → Type 0
 Puts before after done place =
     (xs base : List Stretch) → length xs ≡ place → before ≡ xs ++ drop (length xs) base → after ≡ (xs ++ done) ++ drop (length (xs ++ done)) base
+
+-- the stretches from a to each position of the set, the lowest first
+abbrev pub stretches : ℕ → Ends → List Stretch
+stretches a row = map (stretch a) (members row)

@@ -1,19 +1,19 @@
 //! The stretches that a query fits, seen from the line's first position.
 
-ghost use Rattle.std.specs.Prelude.{◌≡◌, ℕ, suc, ◌+◌, ◌-◌, ◌<◌, ◌≤◌, length};
+ghost use Rattle.std.specs.Prelude.{◌≡◌, ℕ, ◌+◌, ◌<◌, ◌≤◌, length};
 ghost use Rattle.query.specs.Stands.{query_in};
 ghost use Rattle.shape.specs.Fits.{fits};
 ghost use Rattle.shape.specs.Listing.{listing};
-ghost use Rattle.shape.specs.Ranges.{row_from, inside};
+ghost use Rattle.shape.specs.Ranges.{inside};
 ghost use Rattle.steps.specs.Meaning.{steps_of};
-ghost use Rattle.ends.specs.Member.{Next};
 ghost use Rattle.tables.specs.Holds.{holds, Held};
 ghost use Rattle.wholes.specs.declared.view.View.TheVariants.{From};
 ghost use Rattle.wholes.specs.Shows.{Shows};
-ghost use Rattle.matcher.specs.Answers.{Listed, Puts, in_front, room_for, list_out};
+ghost use Rattle.matcher.specs.Answers.{Listed, Puts, in_front, room_for, list_out, stretches};
 ghost use Rattle.walk.specs.Walk.{IsQuery};
 
 use crate::faults::ListFault;
+use ends::Ends;
 use query::Node;
 use shape::Stretch;
 use steps::Steps;
@@ -53,44 +53,30 @@ pub(crate) fn fits_records(records: &[Node], steps: &Steps, a: u8, b: u8) -> boo
     survey(records, steps).contains(a, b)
 }
 
-// The first end from b on of a stretch that begins at a, or 256 where there is none.
-fn end_from(table: &Table, a: usize, b: usize) -> usize
-    requires { (a < 256) × (b ≤ 256) }
-    ensures { Next (holds table.now a) b result }
+// Writes the stretches from a to each end of the row at a place, and answers the place behind them.
+fn write_row(a: u8, row: &Ends, out: &mut [Stretch], place: usize) -> usize
+    requires { place + length (stretches a row.now) ≤ length out.old }
+    ensures written { Puts out.old out.new (stretches a row.now) place }
+    ensures next { result ≡ place + length (stretches a row.now) }
 {
-    table.next_in(a as u8, b).map_or(256, usize::from)
-}
-
-// Writes the stretches of the table that begin at a and end on the line.
-fn write_row(table: &Table, a: usize, n: usize, out: &mut [Stretch], place: usize) -> usize
-    requires small { n < 256 }
-    requires on_line { a < n }
-    requires room { place + length (row_from (n - a) a (suc a) (holds table.now)) ≤ length out.old }
-    ensures written { Puts out.old out.new (row_from (n - a) a (suc a) (holds table.now)) place }
-    ensures next { result ≡ place + length (row_from (n - a) a (suc a) (holds table.now)) }
-{
-    let mut next = place;
-    let mut b = end_from(table, a, a + 1);
-    while b <= n {
-        out[next] = Stretch {
-            start: a as u8,
-            end: b as u8,
-        };
-        next += 1;
-        b = end_from(table, a, b + 1);
+    for (i, b) in row.iter().enumerate() {
+        out[place + i] = Stretch { start: a, end: b };
     }
-    next
+    place + row.len()
 }
 
 // Writes the stretches of the table on a line of n steps, by start and then by end.
-fn write(table: &Table, n: usize, out: &mut [Stretch])
-    requires small { n < 256 }
-    requires room { length (inside (holds table.now) 0 n) ≤ length out.old }
+fn write(table: &Table, n: u8, out: &mut [Stretch])
+    requires { length (inside (holds table.now) 0 n) ≤ length out.old }
     ensures { out.new ≡ in_front (inside (holds table.now) 0 n) out.old }
 {
+    let line = wholes::range(0, n);
     let mut place = 0;
     for a in 0..n {
-        place = write_row(table, a, n, out, place);
+        let mut row = table.row(a);
+        row.keep_right(a);
+        row.keep(&line);
+        place = write_row(a, &row, out, place);
     }
 }
 
@@ -104,12 +90,11 @@ fn not_null(records: &[Node], steps: &Steps) -> Table
 }
 
 // How many stretches the table has on a line of n steps.
-fn count_all(table: &Table, n: usize) -> usize
-    requires small { n < 256 }
+fn count_all(table: &Table, n: u8) -> usize
     requires rising { (x y : ℕ) → Held table.now x y → x < y }
     ensures { result ≡ length (inside (holds table.now) 0 n) }
 {
-    table.inside(0, n as u8, &wholes::range(0, n as u8))
+    table.inside(0, n, &wholes::range(0, n))
 }
 
 // Lists the stretches that the query in the records fits.
@@ -123,7 +108,7 @@ pub(crate) fn list_records(
     ensures answer { result ≡ room_for (length (listing (steps_of steps.now) (query_in records.now))) (length out.old) }
     ensures out { out.new ≡ list_out result (listing (steps_of steps.now) (query_in records.now)) out.old }
 {
-    let n = steps.len();
+    let n = steps.len() as u8;
     let table = not_null(records, steps);
     let count = count_all(&table, n);
     if count > out.len() {

@@ -1,10 +1,11 @@
-use Rattle.std.proofs.Common.{◌≡◌, ℕ, suc, ◌-◌, List, [], length, refl, ap, subst, arith, rules}
+use Rattle.std.proofs.Common.{◌≡◌, ℕ, ◌+◌, ◌-◌, ◌<◌, List, [], ◌++◌, length, refl, ap, ◌∙◌, subst, arith, rules}
 use Rattle.std.proofs.lemmas.List.{length-append}
 use Rattle.shape.specs.declared.stretch.Stretch.{Stretch}
-use Rattle.shape.specs.Ranges.{row_from, rows_from}
+use Rattle.shape.specs.Ranges.{rows_from}
+use Rattle.ends.specs.Member.{member}
 use Rattle.tables.specs.Holds.{holds}
-use Rattle.matcher.specs.Answers.{Puts}
-use Rattle.matcher.proofs.Writing.{puts_none, puts_then, rows_next, rows_room}
+use Rattle.matcher.specs.Answers.{Puts, stretches}
+use Rattle.matcher.proofs.Writing.{puts_none, puts_then, row_listed, rows_next, rows_room}
 use Rattle.matcher.proofs.survey.write.Goals as goal
 
 pub loop-a-init : goal.loop-a-init
@@ -13,24 +14,33 @@ loop-a-init c = (puts_none c.args.out.now 0, refl)
 
 pub write_row-place-requires : goal.write_row-place-requires
 write_row-place-requires c =
-    let r = rows_room (holds c.args.table.now) c.args.n c.loop-a.a (search rules) in
+    let test = holds c.args.table.now in
+    let l : c.loop-a.a < c.args.n = search rules in
+    let w = row_listed test (member c.row-row.result) (member c.keep_right.new.self) (member c.range-line.result) (member c.keep.new.self) c.loop-a.a c.args.n l (search rules)
+    c.row-row.ensures c.keep_right.ensures c.range-line.ensures c.keep.ensures in
+    let m = ap length w in
+    let r = rows_room test c.args.n c.loop-a.a l in
     let e = c.loop-a.invariant.1 in
     let z : c.args.n - 0 ≡ c.args.n = omega arith in
-    let s = ap (λ (d : ℕ). length (rows_from d 0 c.args.n (holds c.args.table.now))) z in
-    let q = c.requires.room in
+    let s = ap (λ (d : ℕ). length (rows_from d 0 c.args.n test)) z in
+    let q = c.requires in
     let k : length c.loop-a.out ≡ length c.args.out.now = c.loop-a.auto.out in
-    record { small = c.requires.small; on_line = search rules; room = omega arith }
+    omega arith
 
 pub loop-a-preserved : goal.loop-a-preserved
 loop-a-preserved c =
-    let d = rows_from c.loop-a.a 0 c.args.n (holds c.args.table.now) in
-    let e = row_from (c.args.n - c.loop-a.a) c.loop-a.a (suc c.loop-a.a) (holds c.args.table.now) in
-    let s = rows_next (holds c.args.table.now) c.args.n c.loop-a.a in
+    let test = holds c.args.table.now in
+    let l : c.loop-a.a < c.args.n = search rules in
+    let w = row_listed test (member c.row-row.result) (member c.keep_right.new.self) (member c.range-line.result) (member c.keep.new.self) c.loop-a.a c.args.n l (search rules)
+    c.row-row.ensures c.keep_right.ensures c.range-line.ensures c.keep.ensures in
+    let d = rows_from c.loop-a.a 0 c.args.n test in
+    let e = stretches c.loop-a.a c.keep.new.self in
+    let s : d ++ e ≡ rows_from (c.loop-a.a + 1) 0 c.args.n test = ap (λ (r : List Stretch). d ++ r) w ∙ rows_next test c.args.n c.loop-a.a in
     let x = ap length s in
     let y = length-append d e in
     let p = c.loop-a.invariant.1 in
     let q = c.write_row-place.ensures.next in (
-      subst (λ (l : List Stretch). Puts c.args.out.now c.write_row-place.new.out l 0) s
+      subst (λ (r : List Stretch). Puts c.args.out.now c.write_row-place.new.out r 0) s
           (puts_then c.args.out.now c.loop-a.out c.write_row-place.new.out d e 0 c.loop-a.place (omega arith) c.loop-a.invariant.0 c.write_row-place.ensures.written),
       omega arith,
     )

@@ -1,70 +1,58 @@
-use Rattle.std.proofs.Common.{◌≡◌, ◌+◌, ◌<◌, ◌≤◌, List, length, ap, ◌∙◌, subst, arith, rules}
-use Rattle.shape.specs.declared.stretch.Stretch.{Stretch}
-use Rattle.tables.specs.Holds.{holds}
+use Rattle.std.proofs.Common.{◌≡◌, ℕ, ◌+◌, List, [], ◌∷◌, ◌++◌, length, map, refl, ap, sym, ◌∙◌, subst, append_assoc, append-nil, arith, rules}
+use Rattle.std.proofs.lemmas.List.{length-append, length-map}
+use Rattle.shape.specs.Ranges.{stretch}
+use Rattle.ends.specs.Member.{member}
+use Rattle.ends.specs.Positions.{left, members}
+use Rattle.ends.proofs.Tallies.{tally_le}
 use Rattle.matcher.specs.Answers.{Puts}
-use Rattle.matcher.proofs.Writing.{row_start, row_end, row_room, row_goes_on, puts_none}
+use Rattle.matcher.proofs.Writing.{puts_none, puts_more, row_room, length_listed}
 use Rattle.matcher.proofs.survey.write_row.Goals as goal
 
-pub loop-b-init : goal.loop-b-init
-loop-b-init c =
-    let h = c.end_from-b.ensures in
-    let above = h.above in
-    let s = row_start (holds c.args.table.now) c.args.a c.args.n c.end_from-b.result h in
-    let e = ap length s in (
-      subst (λ (l : List Stretch). Puts c.args.out.now c.args.out.now l c.args.place) s (puts_none c.args.out.now c.args.place),
+pub loop-i-init : goal.loop-i-init
+loop-i-init c =
+    let e = ap length c.iter-b-items.ensures in
+    let t = tally_le (member c.args.row.now) 256 0 in
+    let n = length_listed (member c.args.row.now) 256 0 in
+    (omega arith, refl, refl, puts_none c.args.out.now c.args.place)
+
+pub bounds-out-place : goal.bounds-out-place
+bounds-out-place c =
+    let e = sym c.iter-b-items.ensures ∙ c.loop-i.invariant.1 ∙ ap (λ (l : List ℕ). c.loop-i.yielded ++ l) c.in-Some.ensures.steps in
+    let k : length c.loop-i.out ≡ length c.args.out.now = c.loop-i.auto.out in
+    let r = row_room (members c.args.row.now) c.loop-i.yielded (left c.next.new.self) c.args.place c.loop-i.i c.args.a c.in-Some.b (length c.args.out.now) e c.loop-i.invariant.2 c.requires in
+    omega arith
+
+pub overflow_add-place : goal.overflow_add-place
+overflow_add-place c = let r = bounds-out-place c in search rules
+
+pub offset_bounds-out-place : goal.offset_bounds-out-place
+offset_bounds-out-place c = let r = bounds-out-place c in search rules
+
+pub loop-i-preserved : goal.loop-i-preserved
+loop-i-preserved c =
+    let s = c.in-Some.ensures.steps in
+    let e = ap length s in
+    let i = c.loop-i.invariant.0 in
+    let d = c.loop-i.invariant.2 in
+    let n = length-append c.loop-i.yielded (c.in-Some.b ∷ []) in (
       omega arith,
+      c.loop-i.invariant.1 ∙ ap (λ (l : List ℕ). c.loop-i.yielded ++ l) s ∙ sym (append_assoc c.loop-i.yielded (c.in-Some.b ∷ []) (left c.next.new.self)),
       omega arith,
-      h.below,
-      h.found,
+      puts_more c.args.out.now c.loop-i.out c.loop-i.yielded c.args.place c.loop-i.i c.args.a c.in-Some.b d (bounds-out-place c) c.loop-i.invariant.3,
     )
 
-pub offset_bounds-out-next : goal.offset_bounds-out-next
-offset_bounds-out-next c =
-    let t = c.loop-b.invariant.4 (let u = c.loop-b-test.true in let v = c.requires.small in omega arith) in
-    let on : c.loop-b.b ≤ c.args.n = omega arith in
-    let r = row_room (holds c.args.table.now) c.args.a c.args.n c.loop-b.b c.loop-b.invariant.2 on t in
-    let e = c.loop-b.invariant.1 in
-    let k : length c.loop-b.out ≡ length c.args.out.now = c.loop-b.auto.out in
-    let q = c.requires.room in
+pub returns-clause-next : goal.returns-clause-next
+returns-clause-next c =
+    let e = c.len.ensures ∙ length_listed (member c.args.row.now) 256 0 ∙ sym (length-map (members c.args.row.now) (stretch c.args.a)) in
+    ap (λ (n : ℕ). c.args.place + n) e
+
+pub overflow_add-result : goal.overflow_add-result
+overflow_add-result c =
+    let e = returns-clause-next c in
+    let q = c.requires in
     search rules
 
-pub bounds-out-next : goal.bounds-out-next
-bounds-out-next c =
-    let t = c.loop-b.invariant.4 (let u = c.loop-b-test.true in let v = c.requires.small in omega arith) in
-    let on : c.loop-b.b ≤ c.args.n = omega arith in
-    let r = row_room (holds c.args.table.now) c.args.a c.args.n c.loop-b.b c.loop-b.invariant.2 on t in
-    let e = c.loop-b.invariant.1 in
-    let k : length c.loop-b.out ≡ length c.args.out.now = c.loop-b.auto.out in
-    let q = c.requires.room in
-    search rules
-
-pub overflow_add-next : goal.overflow_add-next
-overflow_add-next c =
-    let t = c.loop-b.invariant.4 (let u = c.loop-b-test.true in let v = c.requires.small in omega arith) in
-    let on : c.loop-b.b ≤ c.args.n = omega arith in
-    let r = row_room (holds c.args.table.now) c.args.a c.args.n c.loop-b.b c.loop-b.invariant.2 on t in
-    let e = c.loop-b.invariant.1 in
-    let k : length c.loop-b.out ≡ length c.args.out.now = c.loop-b.auto.out in
-    let q = c.requires.room in
-    search rules
-
-pub loop-b-preserved : goal.loop-b-preserved
-loop-b-preserved c =
-    let t = c.loop-b.invariant.4 (let u = c.loop-b-test.true in let v = c.requires.small in omega arith) in
-    let on : c.loop-b.b ≤ c.args.n = omega arith in
-    let r = row_room (holds c.args.table.now) c.args.a c.args.n c.loop-b.b c.loop-b.invariant.2 on t in
-    let e = c.loop-b.invariant.1 in
-    let k : length c.loop-b.out ≡ length c.args.out.now = c.loop-b.auto.out in
-    let q = c.requires.room in
-    let f : c.loop-b.next < length c.loop-b.out = omega arith in
-    row_goes_on (holds c.args.table.now) c.args.a c.args.n c.loop-b.b _ c.args.place c.loop-b.next c.args.out.now c.loop-b.out
-    c.loop-b.invariant.2 on t e f c.loop-b.invariant.0 (search rules)
-
-pub returns : goal.returns
-returns c =
-    let past : c.args.n < c.loop-b.b = omega arith in
-    let s = row_end (holds c.args.table.now) c.args.a c.args.n c.loop-b.b past in
-    record {
-      written = subst (λ (l : List Stretch). Puts c.args.out.now c.loop-b.out l c.args.place) s c.loop-b.invariant.0;
-      next = c.loop-b.invariant.1 ∙ ap (λ (l : List Stretch). c.args.place + length l) s;
-    }
+pub returns-clause-written : goal.returns-clause-written
+returns-clause-written c =
+    let e = sym (append-nil c.loop-i.yielded) ∙ ap (λ (l : List ℕ). c.loop-i.yielded ++ l) (sym c.in-None.ensures.steps.0) ∙ sym c.loop-i.invariant.1 ∙ c.iter-b-items.ensures in
+    subst (λ (l : List ℕ). Puts c.args.out.now c.loop-i.out (map (stretch c.args.a) l) c.args.place) e c.loop-i.invariant.3
