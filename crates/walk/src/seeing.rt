@@ -30,6 +30,7 @@ impl<'a> Sight<'a> {
     }
 
     /// What the query at record i fits.
+    // The wholes stay out of line: a symbol, the most frequent record, then pays for none of their tables.
     #[cycle(walk)]
     pub fn seen(&self, i: usize, levels: u8) -> Table
         requires { Query self.now.walk levels Shape i }
@@ -47,6 +48,7 @@ impl<'a> Sight<'a> {
 
     // One of the parts.
     #[cycle(walk)]
+    #[inline(never)]
     fn any(&self, first: usize, parts: u8, levels: u8) -> Table
         requires { Parts self.now.walk levels Shape parts first }
         ensures { Seen self.now result (one_of (fittings self.now.walk parts first)) }
@@ -62,6 +64,7 @@ impl<'a> Sight<'a> {
 
     // The parts in sequence: the first as it is seen, each later one from its own start.
     #[cycle(walk)]
+    #[inline(never)]
     fn concat(&self, first: usize, parts: u8, levels: u8) -> Table
         requires stand { Parts self.now.walk levels Shape parts first }
         requires some { 1 ≤ parts }
@@ -78,6 +81,7 @@ impl<'a> Sight<'a> {
 
     // The repeat at record i: its first piece as it is seen, and what may follow it.
     #[cycle(walk)]
+    #[inline(never)]
     fn repeat(&self, i: usize, levels: u8) -> Table
         requires repeats { repeats (at self.now.walk.records.now i).kind ≡ true }
         requires stands { Part self.now.walk levels Shape (i + 1) }
@@ -91,6 +95,7 @@ impl<'a> Sight<'a> {
 
     // The windows of a length of which the condition at record i holds.
     #[cycle(walk)]
+    #[inline(never)]
     fn window(&self, i: usize, len: u8, levels: u8) -> Table
         requires { Part self.now.walk levels Window i }
         ensures { Seen self.now result (windowed (fitting self.now.walk i) len) }
