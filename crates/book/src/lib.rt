@@ -19,6 +19,7 @@ pub use table::RunTable;
 /// Any symbol and any step may be asked for. `mark` and `run` leave the list as it is, and take
 /// the book to change all the same, since a book may keep an account of what it is asked.
 pub trait RunBook {
+    // `add`, `drop_last` and `mark` answer bool: the rule of the project is that a book says yes or no.
     /// The list that the book means.
     ghost words: { Self → List ℕ };
 

@@ -38,6 +38,8 @@ impl Ends {
         self.bits[usize::from(b / 64)] |= 1 << (b % 64);
     }
 
+    // `union_with` and `keep` differ in an operator alone; a closure for it would make both longer.
+
     /// Adds the positions of the other set.
     pub fn union_with(&mut self, other: &Ends)
         ensures { (k : ℕ) → member self.new k ≡ (member self.old k || member other.now k) }
@@ -94,6 +96,7 @@ impl Ends {
         if rest != 0 {
             return Some((b + rest.trailing_zeros() as usize) as u8);
         }
+        // By index, since the answer is made of it.
         for w in own + 1..4 {
             if self.bits[w] != 0 {
                 return Some((64 * w + self.bits[w].trailing_zeros() as usize) as u8);

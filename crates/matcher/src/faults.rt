@@ -1,5 +1,7 @@
 //! Why a fit or a listing is refused.
 
+// Two cases are the same in both: a fault type of its own for each stage is a rule of the project.
+
 /// Why a fit is refused.
 #[derive(Clone, Copy, PartialEq, Eq, Debug)]
 pub enum FitFault {

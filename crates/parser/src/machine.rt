@@ -160,6 +160,7 @@ impl Machine {
         Ok(())
     }
 
+    // Not one function with `operator`: what each stands behind differs, and what they share is two tests.
     fn symbol(&mut self, span: Span) -> Result<(), GrammarFault>
         ensures { Stepped result (name_step (seen self.old) Symbol span.place span.length) (seen self.new) }
     {

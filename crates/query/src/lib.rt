@@ -124,6 +124,7 @@ fn tree_end(records: &[Node], i: usize, role: Role, stage: Stage, levels: u8) ->
     }
     let inner = node.kind.part_role();
     let mut next = i + 1;
+    // Plain recursion with the levels left falling is a rule of the project: no iterator goes down for it.
     for k in 0..node.parts {
         next = tree_end(records, next, inner, stage, levels - 1)?;
     }

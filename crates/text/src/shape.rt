@@ -16,6 +16,8 @@ pub struct ReadShape {
     pub(crate) records: usize,
 }
 
+// Alike, and still no one generic type: two moved types of plain numbers are a rule of the project.
+
 /// A query that was bound by an alphabet: how many records it takes up.
 #[derive(Drop)]
 pub struct BoundShape {

@@ -16,6 +16,7 @@ fn step(sheet: &mut [Node], i: usize, levels: u8) -> Option<usize>
 {
     let parts = sheet[i].parts;
     let mut next = i + 1;
+    // Plain recursion with the levels left falling is a rule of the project; an iterator could not lend the sheet for changes.
     for k in 0..parts {
         next = step(sheet, next, levels - 1)?;
     }
