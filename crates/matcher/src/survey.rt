@@ -1,11 +1,12 @@
 //! The stretches that a query fits, seen from the line's first position.
 
-ghost use Rattle.std.specs.Prelude.{◌≡◌, ℕ, ◌+◌, ◌<◌, ◌≤◌, length};
+ghost use Rattle.std.specs.Prelude.{◌≡◌, ℕ, suc, ◌+◌, ◌-◌, ◌<◌, ◌≤◌, length, nat_le};
 ghost use Rattle.query.specs.Stands.{query_in};
 ghost use Rattle.shape.specs.Fits.{fits};
 ghost use Rattle.shape.specs.Listing.{listing};
-ghost use Rattle.shape.specs.Ranges.{inside};
+ghost use Rattle.shape.specs.Ranges.{row_from, inside};
 ghost use Rattle.steps.specs.Meaning.{steps_of};
+ghost use Rattle.ends.specs.Member.{member};
 ghost use Rattle.tables.specs.Holds.{holds, Held};
 ghost use Rattle.wholes.specs.declared.view.View.TheVariants.{From};
 ghost use Rattle.wholes.specs.Shows.{Shows};
@@ -65,6 +66,18 @@ fn write_row(a: u8, row: &Ends, out: &mut [Stretch], place: usize) -> usize
     place + row.len()
 }
 
+// The ends of the stretches of the table that begin at a and end on the line, which has the positions up to n.
+fn row_on(table: &Table, a: u8, n: u8, line: &Ends) -> Ends
+    requires on_line { a < n }
+    requires line { (k : ℕ) → a ≤ k → k < 256 → member line.now k ≡ nat_le k n }
+    ensures { stretches a result ≡ row_from (n - a) a (suc a) (holds table.now) }
+{
+    let mut row = table.row(a);
+    row.keep_right(a);
+    row.keep(line);
+    row
+}
+
 // Writes the stretches of the table on a line of n steps, by start and then by end.
 fn write(table: &Table, n: u8, out: &mut [Stretch])
     requires { length (inside (holds table.now) 0 n) ≤ length out.old }
@@ -73,10 +86,7 @@ fn write(table: &Table, n: u8, out: &mut [Stretch])
     let line = wholes::range(0, n);
     let mut place = 0;
     for a in 0..n {
-        let mut row = table.row(a);
-        row.keep_right(a);
-        row.keep(&line);
-        place = write_row(a, &row, out, place);
+        place = write_row(a, &row_on(table, a, n, &line), out, place);
     }
 }
 

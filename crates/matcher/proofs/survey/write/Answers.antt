@@ -2,10 +2,9 @@ use Rattle.std.proofs.Common.{◌≡◌, ℕ, ◌+◌, ◌-◌, ◌<◌, List, [
 use Rattle.std.proofs.lemmas.List.{length-append}
 use Rattle.shape.specs.declared.stretch.Stretch.{Stretch}
 use Rattle.shape.specs.Ranges.{rows_from}
-use Rattle.ends.specs.Member.{member}
 use Rattle.tables.specs.Holds.{holds}
 use Rattle.matcher.specs.Answers.{Puts, stretches}
-use Rattle.matcher.proofs.Writing.{puts_none, puts_then, row_listed, rows_next, rows_room}
+use Rattle.matcher.proofs.Writing.{puts_none, puts_then, rows_next, rows_room}
 use Rattle.matcher.proofs.survey.write.Goals as goal
 
 pub loop-a-init : goal.loop-a-init
@@ -16,9 +15,7 @@ pub write_row-place-requires : goal.write_row-place-requires
 write_row-place-requires c =
     let test = holds c.args.table.now in
     let l : c.loop-a.a < c.args.n = search rules in
-    let w = row_listed test (member c.row-row.result) (member c.keep_right.new.self) (member c.range-line.result) (member c.keep.new.self) c.loop-a.a c.args.n l (search rules)
-    c.row-row.ensures c.keep_right.ensures c.range-line.ensures c.keep.ensures in
-    let m = ap length w in
+    let m = ap length c.row_on.ensures in
     let r = rows_room test c.args.n c.loop-a.a l in
     let e = c.loop-a.invariant.1 in
     let z : c.args.n - 0 ≡ c.args.n = omega arith in
@@ -30,12 +27,9 @@ write_row-place-requires c =
 pub loop-a-preserved : goal.loop-a-preserved
 loop-a-preserved c =
     let test = holds c.args.table.now in
-    let l : c.loop-a.a < c.args.n = search rules in
-    let w = row_listed test (member c.row-row.result) (member c.keep_right.new.self) (member c.range-line.result) (member c.keep.new.self) c.loop-a.a c.args.n l (search rules)
-    c.row-row.ensures c.keep_right.ensures c.range-line.ensures c.keep.ensures in
     let d = rows_from c.loop-a.a 0 c.args.n test in
-    let e = stretches c.loop-a.a c.keep.new.self in
-    let s : d ++ e ≡ rows_from (c.loop-a.a + 1) 0 c.args.n test = ap (λ (r : List Stretch). d ++ r) w ∙ rows_next test c.args.n c.loop-a.a in
+    let e = stretches c.loop-a.a c.row_on.result in
+    let s : d ++ e ≡ rows_from (c.loop-a.a + 1) 0 c.args.n test = ap (λ (r : List Stretch). d ++ r) c.row_on.ensures ∙ rows_next test c.args.n c.loop-a.a in
     let x = ap length s in
     let y = length-append d e in
     let p = c.loop-a.invariant.1 in
