@@ -9,7 +9,7 @@ ghost use Rattle.matcher.specs.Answers.{fit_number, fit_returned, fit_answer};
 ghost use Rattle.matcher.specs.Answers.{list_number, list_returned, ListsSheet, list_answer, list_out};
 
 use crate::faults::{FitFault, ListFault};
-use crate::survey::{fits_records, list_records};
+use crate::search::Search;
 use query::Node;
 use refusal::Refusal;
 use shape::Stretch;
@@ -93,12 +93,16 @@ pub fn fit(
 ) -> Result<bool, FitFault>
     ensures { result ≡ fit_answer symbols shape.now.records sheet.now (steps_of steps.now) a b }
 {
-    let records = shape.records_in(sheet, symbols)?;
+    let search = Search {
+        records: shape.records_in(sheet, symbols)?,
+        symbols,
+        steps,
+    };
     let n = steps.len();
     if a > b || b > n {
         return Err(FitFault::Stretch(n));
     }
-    Ok(fits_records(records, steps, a as u8, b as u8))
+    Ok(search.fits(a as u8, b as u8))
 }
 
 /// Lists the stretches of the line that the bound query in the first records of the sheet fits, seen from 0, but for null ones: writes them
@@ -114,5 +118,11 @@ pub fn list(
     ensures answer { result ≡ list_answer symbols shape.now.records sheet.now (steps_of steps.now) (length out.old) }
     ensures out { out.new ≡ list_out result (listing (steps_of steps.now) (query_in (take shape.now.records sheet.now))) out.old }
 {
-    list_records(shape.records_in(sheet, symbols)?, steps, out)
+    let records = shape.records_in(sheet, symbols)?;
+    Search {
+        records,
+        symbols,
+        steps,
+    }
+    .list(out)
 }

@@ -4,6 +4,7 @@
 
 mod calls;
 mod faults;
+mod search;
 mod survey;
 
 pub use calls::{fit, list};

@@ -1,58 +1,23 @@
 //! The stretches that a query fits, seen from the line's first position.
 
 ghost use Rattle.std.specs.Prelude.{◌≡◌, ℕ, suc, ◌+◌, ◌-◌, ◌<◌, ◌≤◌, length, nat_le};
-ghost use Rattle.query.specs.Stands.{query_in};
 ghost use Rattle.shape.specs.Fits.{fits};
 ghost use Rattle.shape.specs.Listing.{listing};
 ghost use Rattle.shape.specs.Ranges.{row_from, inside};
-ghost use Rattle.steps.specs.Meaning.{steps_of};
 ghost use Rattle.ends.specs.Member.{member};
 ghost use Rattle.tables.specs.Holds.{holds, Held};
 ghost use Rattle.wholes.specs.declared.view.View.TheVariants.{From};
 ghost use Rattle.wholes.specs.Shows.{Shows};
 ghost use Rattle.matcher.specs.Answers.{Listed, Puts, in_front, room_for, list_out, stretches};
-ghost use Rattle.walk.specs.Walk.{IsQuery};
+ghost use Rattle.matcher.specs.Searching.{line, sought};
 
 use crate::faults::ListFault;
+use crate::search::Search;
 use ends::Ends;
-use query::Node;
 use shape::Stretch;
-use steps::Steps;
 use tables::Table;
 use walk::{Kept, Sight, Walk, keep};
 use wholes::View;
-
-// The stretches that the query fits, null ones too.
-fn survey(records: &[Node], steps: &Steps) -> Table
-    requires { IsQuery records.now }
-    ensures { Shows result (fits (steps_of steps.now) (query_in records.now)) (From 0) (length (steps_of steps.now)) (length (steps_of steps.now)) }
-{
-    let mut kept = Kept::empty();
-    for i in (0..records.len()).rev() {
-        keep(&mut kept, records, steps, i);
-    }
-    let sight = Sight {
-        walk: Walk {
-            records,
-            steps,
-            kept: &kept,
-            from: 0,
-        },
-        view: View::From(0),
-        to: steps.len() as u8,
-    };
-    sight.seen(0, 16)
-}
-
-// Whether the query in the records fits the stretch.
-pub(crate) fn fits_records(records: &[Node], steps: &Steps, a: u8, b: u8) -> bool
-    requires query { IsQuery records.now }
-    requires up { a ≤ b }
-    requires on_line { b ≤ length (steps_of steps.now) }
-    ensures { result ≡ fits (steps_of steps.now) (query_in records.now) 0 a b }
-{
-    survey(records, steps).contains(a, b)
-}
 
 // Writes the stretches from a to each end of the row at a place, and answers the place behind them.
 fn write_row(a: u8, row: &Ends, out: &mut [Stretch], place: usize) -> usize
@@ -90,15 +55,6 @@ fn write(table: &Table, n: u8, out: &mut [Stretch])
     }
 }
 
-// The stretches that the query fits, but for null ones.
-fn not_null(records: &[Node], steps: &Steps) -> Table
-    requires { IsQuery records.now }
-    ensures all { inside (holds result) 0 (length (steps_of steps.now)) ≡ listing (steps_of steps.now) (query_in records.now) }
-    ensures rising { (x y : ℕ) → Held result x y → x < y }
-{
-    survey(records, steps).rising()
-}
-
 // How many stretches the table has on a line of n steps.
 fn count_all(table: &Table, n: u8) -> usize
     requires rising { (x y : ℕ) → Held table.now x y → x < y }
@@ -107,23 +63,58 @@ fn count_all(table: &Table, n: u8) -> usize
     table.inside(0, n, &wholes::range(0, n))
 }
 
-// Lists the stretches that the query in the records fits.
-pub(crate) fn list_records(
-    records: &[Node],
-    steps: &Steps,
-    out: &mut [Stretch],
-) -> Result<usize, ListFault>
-    requires { IsQuery records.now }
-    ensures listed { Listed (steps_of steps.now) (query_in records.now) out.old out.new result }
-    ensures answer { result ≡ room_for (length (listing (steps_of steps.now) (query_in records.now))) (length out.old) }
-    ensures out { out.new ≡ list_out result (listing (steps_of steps.now) (query_in records.now)) out.old }
-{
-    let n = steps.len() as u8;
-    let table = not_null(records, steps);
-    let count = count_all(&table, n);
-    if count > out.len() {
-        return Err(ListFault::Buffer(count));
+impl Search<'_> {
+    // The stretches that the query fits, null ones too.
+    fn survey(&self) -> Table
+        ensures { Shows result (fits (line self.now) (sought self.now)) (From 0) (length (line self.now)) (length (line self.now)) }
+    {
+        let mut kept = Kept::empty();
+        for i in (0..self.records.len()).rev() {
+            keep(&mut kept, self.records, self.steps, i);
+        }
+        let sight = Sight {
+            walk: Walk {
+                records: self.records,
+                steps: self.steps,
+                kept: &kept,
+                from: 0,
+            },
+            view: View::From(0),
+            to: self.steps.len() as u8,
+        };
+        sight.seen(0, 16)
     }
-    write(&table, n, out);
-    Ok(count)
+
+    // Whether the query fits the stretch.
+    pub(crate) fn fits(&self, a: u8, b: u8) -> bool
+        requires up { a ≤ b }
+        requires on_line { b ≤ length (line self.now) }
+        ensures { result ≡ fits (line self.now) (sought self.now) 0 a b }
+    {
+        self.survey().contains(a, b)
+    }
+
+    // The stretches that the query fits, but for null ones.
+    fn not_null(&self) -> Table
+        ensures all { inside (holds result) 0 (length (line self.now)) ≡ listing (line self.now) (sought self.now) }
+        ensures rising { (x y : ℕ) → Held result x y → x < y }
+    {
+        self.survey().rising()
+    }
+
+    // Lists the stretches that the query fits, but for null ones.
+    pub(crate) fn list(&self, out: &mut [Stretch]) -> Result<usize, ListFault>
+        ensures listed { Listed (line self.now) (sought self.now) out.old out.new result }
+        ensures answer { result ≡ room_for (length (listing (line self.now) (sought self.now))) (length out.old) }
+        ensures out { out.new ≡ list_out result (listing (line self.now) (sought self.now)) out.old }
+    {
+        let n = self.steps.len() as u8;
+        let table = self.not_null();
+        let count = count_all(&table, n);
+        if count > out.len() {
+            return Err(ListFault::Buffer(count));
+        }
+        write(&table, n, out);
+        Ok(count)
+    }
 }
