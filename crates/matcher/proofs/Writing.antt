@@ -1,7 +1,7 @@
 -- The stretches of a table, written into a buffer one after another.
-use Rattle.std.proofs.Common.{◌≡◌, ℕ, zero, suc, ◌+◌, ◌-◌, ◌<◌, ◌≤◌, Bool, true, false, cond, ◌&&◌, leb, ltb, List, [], ◌∷◌, ◌++◌, length, map, get_or, drop, set, Decides, sym, refl, ap, ◌∙◌, subst, ap₂, append_assoc, append-nil, arith}
+use Rattle.std.proofs.Common.{◌≡◌, ℕ, zero, suc, ◌+◌, ◌-◌, ◌<◌, ◌≤◌, Bool, true, false, cond, List, [], ◌∷◌, ◌++◌, length, map, get_or, drop, set, Decides, sym, refl, ap, ◌∙◌, subst, ap₂, append_assoc, append-nil, arith}
 use Rattle.std.proofs.lemmas.List.{length-append, length-map, map-append, length-drop, drop_more, set_at}
-use Rattle.std.proofs.lemmas.Bool.{le-leb, lt-leb, lt-ltb, le-ltb, and_right, cond-false}
+use Rattle.std.proofs.lemmas.Bool.{cond-false}
 use Rattle.std.specs.List.{filter, range_with_len}
 use Rattle.std.proofs.lemmas.Bool.Decides.{same_from_decides}
 use Rattle.shape.specs.declared.stretch.Stretch.{Stretch}
@@ -58,33 +58,20 @@ module _ (m : ℕ → Bool) where
       here true r = ap (λ (l : List Stretch). stretch a x ∷ l) r
       here false r = r
 
--- the stretches to the ends of a row right of its start and on the line
-pub row_listed : (test : ℕ → ℕ → Bool) (all right line row : ℕ → Bool) (a n : ℕ) → a < n → n < 256 → ((k : ℕ) → all k ≡ test a k) →
-    ((k : ℕ) → right k ≡ ((ltb a k && ltb k 256) && all k)) → ((k : ℕ) → a ≤ k → k < 256 → line k ≡ leb k n) →
-    ((k : ℕ) → row k ≡ (right k && line k)) →
+-- the stretches to the ends of a row, where each stretch of the test rises and ends on the line
+pub row_listed : (test : ℕ → ℕ → Bool) (row : ℕ → Bool) (a n : ℕ) → a < n → n < 256 → ((x y : ℕ) → test x y ≡ true → (x < y) × (y ≤ n)) → ((k : ℕ) → row k ≡ test a k) →
     map (stretch a) (filter row (range_with_len 0 256)) ≡ row_from (n - a) a (suc a) test
-row_listed test all right line row a n l s held r on both =
+row_listed test row a n l s rising held =
     let e : 256 ≡ suc a + ((n - a) + (255 - n)) = omega arith in
     let z : 0 + suc a ≡ suc a = omega arith in
     ap (λ (d : ℕ). map (stretch a) (filter row (range_with_len 0 d))) e
-    ∙ ap (map (stretch a)) (skip_none row (suc a) ((n - a) + (255 - n)) 0 (λ k u v. left k (omega arith)))
+    ∙ ap (map (stretch a)) (skip_none row (suc a) ((n - a) + (255 - n)) 0 (λ k u v. none k (test a k) refl (λ r. omega arith)))
     ∙ ap (λ (x : ℕ). map (stretch a) (filter row (range_with_len x ((n - a) + (255 - n))))) z
-    ∙ listed row test a (n - a) (255 - n) (suc a) (λ k u v. here k (omega arith) (omega arith)) (λ k u v. past k (omega arith) (omega arith))
+    ∙ listed row test a (n - a) (255 - n) (suc a) (λ k u v. held k) (λ k u v. none k (test a k) refl (λ r. omega arith))
   where
-    and_true : (t : Bool) → (t && true) ≡ t
-    and_true true = refl
-    and_true false = refl
-
-    left : (k : ℕ) → k ≤ a → row k ≡ false
-    left k u = both k ∙ ap (λ (t : Bool). t && line k) (r k ∙ ap (λ (t : Bool). (t && ltb k 256) && all k) (le-ltb a k u))
-
-    here : (k : ℕ) → a < k → k ≤ n → row k ≡ test a k
-    here k u v =
-        both k ∙ ap₂ (λ (t w : Bool). t && w) (r k ∙ ap₂ (λ (t w : Bool). (t && w) && all k) (lt-ltb a k u) (lt-ltb k 256 (omega arith)) ∙ held k) (on k (omega arith) (omega arith) ∙ le-leb k n v)
-        ∙ and_true (test a k)
-
-    past : (k : ℕ) → n < k → k < 256 → row k ≡ false
-    past k u v = both k ∙ and_right (right k) (line k) (on k (omega arith) v ∙ lt-leb k n u)
+    none : (k : ℕ) (t : Bool) → test a k ≡ t → ((a < k) × (k ≤ n) → ⊥) → row k ≡ false
+    none k true e f = absurd (f (rising a k e))
+    none k false e f = held k ∙ e
 
 -- writing
 pub puts_none : (before : List Stretch) (place : ℕ) → Puts before before [] place

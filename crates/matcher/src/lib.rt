@@ -4,6 +4,7 @@
 
 mod calls;
 mod faults;
+mod found;
 mod search;
 mod survey;
 

@@ -1,17 +1,15 @@
 //! The stretches that a query fits, seen from the line's first position.
 
-ghost use Rattle.std.specs.Prelude.{◌≡◌, ℕ, suc, ◌+◌, ◌-◌, ◌<◌, ◌≤◌, length, nat_le};
+ghost use Rattle.std.specs.Prelude.{◌≡◌, ◌+◌, ◌≤◌, length};
 ghost use Rattle.shape.specs.Fits.{fits};
 ghost use Rattle.shape.specs.Listing.{listing};
-ghost use Rattle.shape.specs.Ranges.{row_from, inside};
-ghost use Rattle.ends.specs.Member.{member};
-ghost use Rattle.tables.specs.Holds.{holds, Held};
 ghost use Rattle.wholes.specs.declared.view.View.TheVariants.{From};
 ghost use Rattle.wholes.specs.Shows.{Shows};
 ghost use Rattle.matcher.specs.Answers.{Listed, Puts, in_front, room_for, list_out, stretches};
-ghost use Rattle.matcher.specs.Searching.{line, sought};
+ghost use Rattle.matcher.specs.Searching.{all, line, sought};
 
 use crate::faults::ListFault;
+use crate::found::Found;
 use crate::search::Search;
 use ends::Ends;
 use shape::Stretch;
@@ -31,36 +29,25 @@ fn write_row(a: u8, row: &Ends, out: &mut [Stretch], place: usize) -> usize
     place + row.len()
 }
 
-// The ends of the stretches of the table that begin at a and end on the line, which has the positions up to n.
-fn row_on(table: &Table, a: u8, n: u8, line: &Ends) -> Ends
-    requires on_line { a < n }
-    requires line { (k : ℕ) → a ≤ k → k < 256 → member line.now k ≡ nat_le k n }
-    ensures { stretches a result ≡ row_from (n - a) a (suc a) (holds table.now) }
-{
-    let mut row = table.row(a);
-    row.keep_right(a);
-    row.keep(line);
-    row
-}
-
-// Writes the stretches of the table on a line of n steps, by start and then by end.
-fn write(table: &Table, n: u8, out: &mut [Stretch])
-    requires { length (inside (holds table.now) 0 n) ≤ length out.old }
-    ensures { out.new ≡ in_front (inside (holds table.now) 0 n) out.old }
-{
-    let line = wholes::range(0, n);
-    let mut place = 0;
-    for a in 0..n {
-        place = write_row(a, &row_on(table, a, n, &line), out, place);
+impl Found {
+    // How many they are.
+    fn count(&self) -> usize
+        ensures { result ≡ length (all self.now) }
+    {
+        self.table.inside(0, self.n, &wholes::range(0, self.n))
     }
-}
 
-// How many stretches the table has on a line of n steps.
-fn count_all(table: &Table, n: u8) -> usize
-    requires rising { (x y : ℕ) → Held table.now x y → x < y }
-    ensures { result ≡ length (inside (holds table.now) 0 n) }
-{
-    table.inside(0, n, &wholes::range(0, n))
+    // Writes them by start and then by end.
+    fn write(&self, out: &mut [Stretch])
+        requires { length (all self.now) ≤ length out.old }
+        ensures { out.new ≡ in_front (all self.now) out.old }
+    {
+        let mut place = 0;
+        for a in 0..self.n {
+            let row = self.table.row(a);
+            place = write_row(a, &row, out, place);
+        }
+    }
 }
 
 impl Search<'_> {
@@ -95,11 +82,13 @@ impl Search<'_> {
     }
 
     // The stretches that the query fits, but for null ones.
-    fn not_null(&self) -> Table
-        ensures all { inside (holds result) 0 (length (line self.now)) ≡ listing (line self.now) (sought self.now) }
-        ensures rising { (x y : ℕ) → Held result x y → x < y }
+    fn not_null(&self) -> Found
+        ensures { all result ≡ listing (line self.now) (sought self.now) }
     {
-        self.survey().rising()
+        Found {
+            table: self.survey().rising(),
+            n: self.steps.len() as u8,
+        }
     }
 
     // Lists the stretches that the query fits, but for null ones.
@@ -108,13 +97,12 @@ impl Search<'_> {
         ensures answer { result ≡ room_for (length (listing (line self.now) (sought self.now))) (length out.old) }
         ensures out { out.new ≡ list_out result (listing (line self.now) (sought self.now)) out.old }
     {
-        let n = self.steps.len() as u8;
-        let table = self.not_null();
-        let count = count_all(&table, n);
+        let found = self.not_null();
+        let count = found.count();
         if count > out.len() {
             return Err(ListFault::Buffer(count));
         }
-        write(&table, n, out);
+        found.write(out);
         Ok(count)
     }
 }
