@@ -52,6 +52,7 @@ impl Found {
 
 impl Search<'_> {
     // The stretches that the query fits, null ones too.
+    #[tactic(auto, unfolding(query::specs::Stands::query_in))]
     fn survey(&self) -> Table
         ensures { Shows result (fits (line self.now) (sought self.now)) (From 0) (length (line self.now)) (length (line self.now)) }
     {
@@ -73,6 +74,7 @@ impl Search<'_> {
     }
 
     // Whether the query fits the stretch.
+    #[tactic(auto, using(std::proofs::lemmas::Bool::Decides::same_from_decides))]
     pub(crate) fn fits(&self, a: u8, b: u8) -> bool
         requires up { a ≤ b }
         requires on_line { b ≤ length (line self.now) }
@@ -82,6 +84,7 @@ impl Search<'_> {
     }
 
     // The stretches that the query fits, but for null ones.
+    #[tactic(auto, using(crate::proofs::Writing::inside_shown), unfolding(shape::specs::Listing::listing))]
     fn not_null(&self) -> Found
         ensures { all result ≡ listing (line self.now) (sought self.now) }
     {

@@ -1,10 +1,7 @@
-use Rattle.std.proofs.Common.{◌≡◌, ℕ, ◌+◌, ◌-◌, ◌≤◌, length, subst, arith, rules}
+use Rattle.std.proofs.Common.{◌≡◌, ◌+◌, ◌-◌, ◌≤◌, length, subst, arith, rules}
 use Rattle.query.specs.declared.node.Role.TheVariants.{Shape}
-use Rattle.query.specs.Stands.{query_in}
 use Rattle.query.specs.declared.node.Stage.TheVariants.{Bound}
-use Rattle.wholes.specs.declared.view.View.TheVariants.{From}
-use Rattle.wholes.specs.Shows.{Shows}
-use Rattle.walk.specs.Walk.{RightFrom, rule}
+use Rattle.walk.specs.Walk.{RightFrom}
 use Rattle.walk.proofs.Walking.{query_stands, within}
 use Rattle.walk.proofs.Going.{right_on}
 use Rattle.walk.proofs.Standing.{right_none}
@@ -41,9 +38,3 @@ pub seen-requires : goal.seen-requires
 seen-requires c =
     let s = c.args.self.now in
     record { deep = omega arith; reached = omega arith; stands = (Bound s.symbols, length s.records.now, (query_stands (Bound s.symbols) s.records.now s.query).1) }
-
-pub returns : goal.returns
-unfolding query_in
-returns c =
-    let s = c.args.self.now in
-    subst (λ (n : ℕ). Shows c.seen.result (rule (line s) s.records.now 0) (From 0) n (length (line s))) c.len.ensures.length c.seen.ensures
