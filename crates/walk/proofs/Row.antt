@@ -30,35 +30,34 @@ module _ (w : Walk) (m k i : ℕ) (e : m ≡ suc k) (h : ∥ ((d : ℕ) × (r : 
   pub some_others : (q : ℕ) → q ≡ next_at 16 w.records.now i → ∥ ((d : ℕ) × (r : Role) × Parts w d r k q) ∥₁
   some_others q n = ∥∥₁_elim h ∥∥₁_prop (λ s. ∣ (s.0, s.1, (one_part w s.0 s.1 m k i q e n s.2).left) ∣₁)
 
+-- what the parts fit, record by record
+fittings_are : (w : Walk) (k i : ℕ) → fittings w k i ≡ map (fitting w) (places w k i)
+fittings_are w zero i = rules_none (line w) w.records.now 0 i refl
+fittings_are w (suc k) i =
+    rules_more (line w) w.records.now (suc k) k i refl ∙ ap (λ (Rs : List Rule). fitting w i ∷ Rs) (fittings_are w k (next_at 16 w.records.now i))
+
 module _ (w : Walk) (d : ℕ) (r : Role) where
   -- at each of these records a part stands
   abbrev pub AllStand : List ℕ → Type 0
   AllStand [] = Unit {0}
   AllStand (p ∷ ps) = Part w d r p × AllStand ps
 
-  pub all_stand : (k i : ℕ) → Parts w d r k i → AllStand (places w k i)
+  all_stand : (k i : ℕ) → Parts w d r k i → AllStand (places w k i)
   all_stand zero i h = tt
   all_stand (suc k) i h =
       (part_here w d r (suc k) k i refl h, all_stand k (next_at 16 w.records.now i) (one_part w d r (suc k) k i _ refl refl h).left)
 
--- what the parts fit, record by record
-pub fittings_are : (w : Walk) (k i : ℕ) → fittings w k i ≡ map (fitting w) (places w k i)
-fittings_are w zero i = rules_none (line w) w.records.now 0 i refl
-fittings_are w (suc k) i =
-    rules_more (line w) w.records.now (suc k) k i refl ∙ ap (λ (Rs : List Rule). fitting w i ∷ Rs) (fittings_are w k (next_at 16 w.records.now i))
-
-module _ (w : Walk) (d : ℕ) (r : Role) where
   -- all parts are ahead
   pub all_ahead : (k i : ℕ) (ps : List ℕ) (Q : List Rule → Type 0) → ps ≡ places w k i → Parts w d r k i → Q (fittings w k i) →
-      AllStand w d r ps × Q (map (fitting w) ps)
+      AllStand ps × Q (map (fitting w) ps)
   all_ahead k i ps Q e h q = (
-    subst (AllStand w d r) (sym e) (all_stand w d r k i h),
+    subst AllStand (sym e) (all_stand k i h),
     subst Q (fittings_are w k i ∙ ap (λ (xs : List ℕ). map (fitting w) xs) (sym e)) q,
   )
 
   -- of those that are ahead one is taken
-  pub one_taken : (p : ℕ) (ps qs : List ℕ) (Q : List Rule → Type 0) → ps ≡ p ∷ qs → AllStand w d r ps × Q (map (fitting w) ps) →
-      Part w d r p × AllStand w d r qs × Q (fitting w p ∷ map (fitting w) qs)
+  pub one_taken : (p : ℕ) (ps qs : List ℕ) (Q : List Rule → Type 0) → ps ≡ p ∷ qs → AllStand ps × Q (map (fitting w) ps) →
+      Part w d r p × AllStand qs × Q (fitting w p ∷ map (fitting w) qs)
   one_taken p ps qs Q e h =
-      let s : Part w d r p × AllStand w d r qs = subst (AllStand w d r) e h.0 in
+      let s : Part w d r p × AllStand qs = subst AllStand e h.0 in
       (s.0, s.1, subst (λ (xs : List ℕ). Q (map (fitting w) xs)) e h.1)
