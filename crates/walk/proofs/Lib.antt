@@ -2,3 +2,4 @@ pub mod Walking
 pub mod Going
 pub mod Standing
 pub mod Knowing
+pub mod Row

@@ -1,2 +1,3 @@
 pub mod Walk
 pub mod Seeing
+pub mod Places

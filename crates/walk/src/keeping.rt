@@ -43,6 +43,7 @@ fn record_after(records: &[Node], kept: &Kept, i: usize) -> usize
     requires nexts { (x : ℕ) → i < x → (r : Role) → Stands 16 records.now r x → (d : Entry) → (entry kept.now x d).next ≡ next_at 16 records.now x }
     ensures { result ≡ next_at 16 records.now i }
 {
+    // No `Places` here: what is wanted is the record behind the parts, and what a walk at i rests on is kept only after it.
     let mut next = i + 1;
     for k in 0..records[i].parts {
         next = kept.entries[next].next;

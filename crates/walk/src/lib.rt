@@ -6,6 +6,7 @@ mod keeping;
 mod kept;
 mod many;
 mod parts;
+mod places;
 mod seeing;
 mod sight;
 mod walk;

@@ -54,10 +54,8 @@ impl<'a> Sight<'a> {
         ensures { Seen self.now result (one_of (fittings self.now.walk parts first)) }
     {
         let mut out = Table::empty();
-        let mut next = first;
-        for k in 0..parts {
-            out.union_with(&self.part(next, levels));
-            next = self.walk.after(next);
+        for part in self.walk.parts(first, parts) {
+            out.union_with(&self.part(part, levels));
         }
         out
     }
@@ -71,10 +69,8 @@ impl<'a> Sight<'a> {
         ensures { Seen self.now result (sequence (fittings self.now.walk parts first)) }
     {
         let mut out = self.part(first, levels);
-        let mut next = self.walk.after(first);
-        for k in 1..parts {
-            out = out.then(self.walk.own(next));
-            next = self.walk.after(next);
+        for part in self.walk.parts(self.walk.after(first), parts - 1) {
+            out = out.then(self.walk.own(part));
         }
         out
     }

@@ -43,16 +43,15 @@ impl<'a> Windows<'a> {
     }
 
     // The starts of the windows of which all parts hold.
+    // Apart from `either`: they share one line of a loop, and a closure for the rest would need longer clauses than the two.
     #[cycle(walk)]
     fn all(&self, first: usize, parts: u8, levels: u8) -> Ends
         requires { Parts self.now.walk levels Count parts first }
         ensures { Begun self.now result (all_of (fittings self.now.walk parts first)) }
     {
         let mut out = wholes::range(usize::from(self.s), self.to - self.len);
-        let mut next = first;
-        for k in 0..parts {
-            out.keep(&self.starts(next, levels));
-            next = self.walk.after(next);
+        for part in self.walk.parts(first, parts) {
+            out.keep(&self.starts(part, levels));
         }
         out
     }
@@ -64,10 +63,8 @@ impl<'a> Windows<'a> {
         ensures { Begun self.now result (one_of (fittings self.now.walk parts first)) }
     {
         let mut out = Ends::empty();
-        let mut next = first;
-        for k in 0..parts {
-            out.union_with(&self.starts(next, levels));
-            next = self.walk.after(next);
+        for part in self.walk.parts(first, parts) {
+            out.union_with(&self.starts(part, levels));
         }
         out
     }
@@ -84,10 +81,8 @@ impl<'a> Windows<'a> {
             to: self.to,
         };
         let mut reach = Reach::start();
-        let mut next = first;
-        for k in 0..parts {
-            reach = reach.advance(&Reach::earliest(&sight.seen(next, levels)));
-            next = self.walk.after(next);
+        for part in self.walk.parts(first, parts) {
+            reach = reach.advance(&Reach::earliest(&sight.seen(part, levels)));
         }
         reach.within(self.s, self.len, self.to)
     }

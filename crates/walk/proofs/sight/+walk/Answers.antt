@@ -1,4 +1,4 @@
-use Rattle.std.proofs.Common.{◌≡◌, ℕ, ◌+◌, ◌-◌, List, length, sym, refl, subst, arith, rules}
+use Rattle.std.proofs.Common.{ℕ, ◌+◌, ◌-◌, List, length, map, sym, ap, ◌∙◌, refl, subst, arith, rules}
 use Rattle.query.specs.declared.node.Kind.TheVariants.{Any, Concat, And, Or, Inorder}
 use Rattle.query.specs.declared.node.Role.TheVariants.{Shape, Window, Count}
 use Rattle.query.specs.Stands.{at as query_at}
@@ -9,72 +9,16 @@ use Rattle.wholes.specs.declared.view.Many.{Many}
 use Rattle.wholes.specs.declared.view.View.TheVariants.{From}
 use Rattle.wholes.specs.Shows.{repeated, counting, Shows}
 use Rattle.wholes.specs.Turns.{at}
-use Rattle.wholes.proofs.Joining.{Either, either_more, either_all, Sequel, sequel_start, sequel_more, sequel_all, AnyStart, any_start_more, any_start_all, AllStart, all_start_more, all_start_all}
+use Rattle.wholes.proofs.Joining.{Either, Sequel, sequel_start, sequel_more, AnyStart, AllStart}
 use Rattle.wholes.proofs.Placing.{Reaches, reaches_start, reaches_more, reaches_all}
 use Rattle.walk.specs.Walk.{many_of}
-use Rattle.walk.specs.Seeing.{line, fitting, fittings, Seen, Begun, Parts}
-use Rattle.walk.proofs.Walking.{opened, lifted, count_window, rules_none}
+use Rattle.walk.specs.Seeing.{line, fitting, fittings, Seen, Begun}
+use Rattle.walk.proofs.Walking.{opened, lifted, count_window}
 use Rattle.walk.proofs.Going.{shows_own, later_as, as_symbol, as_any, as_concat, as_in, as_and, as_or, as_inorder, parts_in, some_parts, part_of_in, repeat_kind, as_repeat, as_count}
+use Rattle.walk.specs.Places.{ahead}
+use Rattle.walk.proofs.Row.{all_ahead, one_taken}
 use Rattle.walk.proofs.Knowing.{few, repeat_shown, any_deeper, part_here, one_part}
 use Rattle.walk.proofs.sight.+walk.Goals as goal
-
-pub Sight::any-part-requires : goal.Sight::any-part-requires
-Sight::any-part-requires t c =
-    (omega arith, part_here c.args.self.now.walk c.args.levels Shape (c.args.parts - c.loop-k.k) (c.args.parts - (c.loop-k.k + 1)) c.loop-k.next (omega arith) c.loop-k.invariant.0)
-
-pub Sight::any-after-next-requires : goal.Sight::any-after-next-requires
-Sight::any-after-next-requires t c =
-    (Shape, any_deeper c.args.self.now.walk c.args.levels Shape c.loop-k.next (part_here c.args.self.now.walk c.args.levels Shape (c.args.parts - c.loop-k.k) (c.args.parts - (c.loop-k.k + 1)) c.loop-k.next (omega arith) c.loop-k.invariant.0))
-
-pub Sight::any-loop-k-preserved : goal.Sight::any-loop-k-preserved
-Sight::any-loop-k-preserved t c =
-    let p = one_part c.args.self.now.walk c.args.levels Shape (c.args.parts - c.loop-k.k) (c.args.parts - (c.loop-k.k + 1)) c.loop-k.next c.after-next.result (omega arith) c.after-next.ensures c.loop-k.invariant.0 in (
-      p.left,
-      either_more (fittings c.args.self.now.walk c.args.parts c.args.first) c.args.self.now.view c.args.self.now.to (length (line c.args.self.now.walk)) (fitting c.args.self.now.walk c.loop-k.next) (fittings c.args.self.now.walk (c.args.parts - (c.loop-k.k + 1)) c.after-next.result) c.loop-k.out c.part.result c.union_with.new.self c.args.self.now.high c.part.ensures c.union_with.ensures
-          (subst (λ (R : List Rule). Either (fittings c.args.self.now.walk c.args.parts c.args.first) R c.args.self.now.view c.args.self.now.to (length (line c.args.self.now.walk)) c.loop-k.out) p.rules_are c.loop-k.invariant.1),
-    )
-
-pub Sight::any-returns : goal.Sight::any-returns
-Sight::any-returns t c =
-    either_all (fittings c.args.self.now.walk c.args.parts c.args.first) c.args.self.now.view c.args.self.now.to (length (line c.args.self.now.walk)) c.loop-k.out (subst (λ (R : List Rule). Either (fittings c.args.self.now.walk c.args.parts c.args.first) R c.args.self.now.view c.args.self.now.to (length (line c.args.self.now.walk)) c.loop-k.out) (rules_none (line c.args.self.now.walk) c.args.self.now.walk.records.now (c.args.parts - c.loop-k.k) c.loop-k.next (omega arith)) c.loop-k.invariant.1)
-
-pub Sight::concat-part-out-requires : goal.Sight::concat-part-out-requires
-Sight::concat-part-out-requires t c =
-    (omega arith, part_here c.args.self.now.walk c.args.levels Shape c.args.parts (c.args.parts - 1) c.args.first (let s = c.requires.some in omega arith) c.requires.stand)
-
-pub Sight::concat-after-next-requires : goal.Sight::concat-after-next-requires
-Sight::concat-after-next-requires t c =
-    (Shape, any_deeper c.args.self.now.walk c.args.levels Shape c.args.first (part_here c.args.self.now.walk c.args.levels Shape c.args.parts (c.args.parts - 1) c.args.first (let s = c.requires.some in omega arith) c.requires.stand))
-
-pub Sight::concat-loop-k-init : goal.Sight::concat-loop-k-init
-Sight::concat-loop-k-init t c =
-    let p = one_part c.args.self.now.walk c.args.levels Shape c.args.parts (c.args.parts - 1) c.args.first c.after-next.result (let s = c.requires.some in omega arith) c.after-next.ensures c.requires.stand in (p.left, λ v s. s)
-
-pub Sight::concat-own-requires : goal.Sight::concat-own-requires
-Sight::concat-own-requires t c =
-    any_deeper c.args.self.now.walk c.args.levels Shape c.loop-k.next (part_here c.args.self.now.walk c.args.levels Shape (c.args.parts - c.loop-k.k) (c.args.parts - (c.loop-k.k + 1)) c.loop-k.next (omega arith) c.loop-k.invariant.0)
-
-pub Sight::concat-after-next-requires-in-loop-k : goal.Sight::concat-after-next-requires-in-loop-k
-Sight::concat-after-next-requires-in-loop-k t c =
-    (Shape, any_deeper c.args.self.now.walk c.args.levels Shape c.loop-k.next (part_here c.args.self.now.walk c.args.levels Shape (c.args.parts - c.loop-k.k) (c.args.parts - (c.loop-k.k + 1)) c.loop-k.next (omega arith) c.loop-k.invariant.0))
-
-pub Sight::concat-loop-k-preserved : goal.Sight::concat-loop-k-preserved
-Sight::concat-loop-k-preserved t c =
-    let p = one_part c.args.self.now.walk c.args.levels Shape (c.args.parts - c.loop-k.k) (c.args.parts - (c.loop-k.k + 1)) c.loop-k.next c.after-next-in-loop-k.result (omega arith) c.after-next-in-loop-k.ensures c.loop-k.invariant.0 in (
-      p.left,
-      λ v s.
-          sequel_more v c.args.self.now.to (length (line c.args.self.now.walk)) c.args.self.now.high (fittings c.args.self.now.walk c.args.parts c.args.first) (fitting c.args.self.now.walk c.loop-k.next) (fittings c.args.self.now.walk (c.args.parts - (c.loop-k.k + 1)) c.after-next-in-loop-k.result) c.loop-k.out _ c.then-out.result c.own.ensures c.then-out.ensures
-          (subst (λ (R : List Rule). Sequel (fittings c.args.self.now.walk c.args.parts c.args.first) R v c.args.self.now.to (length (line c.args.self.now.walk)) c.loop-k.out) p.rules_are (c.loop-k.invariant.1 v s)),
-    )
-
-pub Sight::concat-returns : goal.Sight::concat-returns
-Sight::concat-returns t c =
-    let p = one_part c.args.self.now.walk c.args.levels Shape c.args.parts (c.args.parts - 1) c.args.first c.after-next.result (let s = c.requires.some in omega arith) c.after-next.ensures c.requires.stand in
-    let left : List Rule = fittings c.args.self.now.walk (c.args.parts - 1) c.after-next.result in
-    let began : Sequel (fittings c.args.self.now.walk c.args.parts c.args.first) left c.args.self.now.view c.args.self.now.to (length (line c.args.self.now.walk)) c.part-out.result =
-    subst (λ (R : List Rule). Sequel R left c.args.self.now.view c.args.self.now.to (length (line c.args.self.now.walk)) c.part-out.result) (sym p.rules_are)
-    (sequel_start c.args.self.now.view c.args.self.now.to (length (line c.args.self.now.walk)) c.args.self.now.high (fitting c.args.self.now.walk c.args.first) left c.part-out.result c.part-out.ensures) in
-    sequel_all c.args.self.now.view c.args.self.now.to (length (line c.args.self.now.walk)) c.args.self.now.high (fittings c.args.self.now.walk c.args.parts c.args.first) c.loop-k.out (subst (λ (R : List Rule). Sequel (fittings c.args.self.now.walk c.args.parts c.args.first) R c.args.self.now.view c.args.self.now.to (length (line c.args.self.now.walk)) c.loop-k.out) (rules_none (line c.args.self.now.walk) c.args.self.now.walk.records.now (c.args.parts - c.loop-k.k) c.loop-k.next (omega arith)) (c.loop-k.invariant.1 c.args.self.now.view began))
 
 pub Sight::part-own-requires : goal.Sight::part-own-requires
 Sight::part-own-requires t c =
@@ -216,87 +160,10 @@ Sight::seen-returns-in_default t c =
     let e = repeat_kind (query_at c.args.self.now.walk.records.now c.args.i).kind o.kind_right c.in_default.not-Symbol c.in_default.not-Any c.in_default.not-Concat c.in_default.not-In in
     subst (Seen c.args.self.now c.repeat.result) (sym (as_repeat (line c.args.self.now.walk) c.args.levels c.args.self.now.walk.records.now c.args.i c.requires.deep o e).1) c.repeat.ensures
 
-pub Windows::all-starts-requires : goal.Windows::all-starts-requires
-Windows::all-starts-requires t c =
-    let h = part_here c.args.self.now.walk c.args.levels Count (c.args.parts - c.loop-k.k) (c.args.parts - (c.loop-k.k + 1)) c.loop-k.next (omega arith) c.loop-k.invariant.0 in
-    (omega arith, record { deep = h.deep; reached = h.reached; stands = count_window c.args.levels c.args.self.now.walk.records.now c.loop-k.next h.deep h.stands })
-
-pub Windows::all-after-next-requires : goal.Windows::all-after-next-requires
-Windows::all-after-next-requires t c =
-    (Count, any_deeper c.args.self.now.walk c.args.levels Count c.loop-k.next (part_here c.args.self.now.walk c.args.levels Count (c.args.parts - c.loop-k.k) (c.args.parts - (c.loop-k.k + 1)) c.loop-k.next (omega arith) c.loop-k.invariant.0))
-
-pub Windows::all-loop-k-preserved : goal.Windows::all-loop-k-preserved
-Windows::all-loop-k-preserved t c =
-    let p = one_part c.args.self.now.walk c.args.levels Count (c.args.parts - c.loop-k.k) (c.args.parts - (c.loop-k.k + 1)) c.loop-k.next c.after-next.result (omega arith) c.after-next.ensures c.loop-k.invariant.0 in (
-      p.left,
-      all_start_more (fittings c.args.self.now.walk c.args.parts c.args.first) c.args.self.now.s c.args.self.now.len c.args.self.now.to (fitting c.args.self.now.walk c.loop-k.next) (fittings c.args.self.now.walk (c.args.parts - (c.loop-k.k + 1)) c.after-next.result) (member c.loop-k.out) (member c.starts.result) (member c.keep.new.self) c.starts.ensures c.keep.ensures
-          (subst (λ (R : List Rule). AllStart (fittings c.args.self.now.walk c.args.parts c.args.first) c.args.self.now.s c.args.self.now.len c.args.self.now.to R (member c.loop-k.out)) p.rules_are c.loop-k.invariant.1),
-    )
-
-pub Windows::all-returns : goal.Windows::all-returns
-Windows::all-returns t c =
-    all_start_all (fittings c.args.self.now.walk c.args.parts c.args.first) c.args.self.now.s c.args.self.now.len c.args.self.now.to (member c.loop-k.out) (subst (λ (R : List Rule). AllStart (fittings c.args.self.now.walk c.args.parts c.args.first) c.args.self.now.s c.args.self.now.len c.args.self.now.to R (member c.loop-k.out)) (rules_none (line c.args.self.now.walk) c.args.self.now.walk.records.now (c.args.parts - c.loop-k.k) c.loop-k.next (omega arith)) c.loop-k.invariant.1)
-
-pub Windows::either-starts-requires : goal.Windows::either-starts-requires
-Windows::either-starts-requires t c =
-    let h = part_here c.args.self.now.walk c.args.levels Count (c.args.parts - c.loop-k.k) (c.args.parts - (c.loop-k.k + 1)) c.loop-k.next (omega arith) c.loop-k.invariant.0 in
-    (omega arith, record { deep = h.deep; reached = h.reached; stands = count_window c.args.levels c.args.self.now.walk.records.now c.loop-k.next h.deep h.stands })
-
-pub Windows::either-after-next-requires : goal.Windows::either-after-next-requires
-Windows::either-after-next-requires t c =
-    (Count, any_deeper c.args.self.now.walk c.args.levels Count c.loop-k.next (part_here c.args.self.now.walk c.args.levels Count (c.args.parts - c.loop-k.k) (c.args.parts - (c.loop-k.k + 1)) c.loop-k.next (omega arith) c.loop-k.invariant.0))
-
-pub Windows::either-loop-k-preserved : goal.Windows::either-loop-k-preserved
-Windows::either-loop-k-preserved t c =
-    let p = one_part c.args.self.now.walk c.args.levels Count (c.args.parts - c.loop-k.k) (c.args.parts - (c.loop-k.k + 1)) c.loop-k.next c.after-next.result (omega arith) c.after-next.ensures c.loop-k.invariant.0 in (
-      p.left,
-      any_start_more (fittings c.args.self.now.walk c.args.parts c.args.first) c.args.self.now.s c.args.self.now.len c.args.self.now.to (fitting c.args.self.now.walk c.loop-k.next) (fittings c.args.self.now.walk (c.args.parts - (c.loop-k.k + 1)) c.after-next.result) (member c.loop-k.out) (member c.starts.result) (member c.union_with.new.self) c.starts.ensures c.union_with.ensures
-          (subst (λ (R : List Rule). AnyStart (fittings c.args.self.now.walk c.args.parts c.args.first) c.args.self.now.s c.args.self.now.len c.args.self.now.to R (member c.loop-k.out)) p.rules_are c.loop-k.invariant.1),
-    )
-
-pub Windows::either-returns : goal.Windows::either-returns
-Windows::either-returns t c =
-    any_start_all (fittings c.args.self.now.walk c.args.parts c.args.first) c.args.self.now.s c.args.self.now.len c.args.self.now.to (member c.loop-k.out) (subst (λ (R : List Rule). AnyStart (fittings c.args.self.now.walk c.args.parts c.args.first) c.args.self.now.s c.args.self.now.len c.args.self.now.to R (member c.loop-k.out)) (rules_none (line c.args.self.now.walk) c.args.self.now.walk.records.now (c.args.parts - c.loop-k.k) c.loop-k.next (omega arith)) c.loop-k.invariant.1)
-
 pub Windows::counted-returns : goal.Windows::counted-returns
 Windows::counted-returns t c =
     c.counted.ensures (fitting c.args.self.now.walk c.args.i) (length (line c.args.self.now.walk))
     (subst (λ (s : ℕ). Shows c.seen.result (fitting c.args.self.now.walk c.args.i) (From s) c.args.self.now.to (length (line c.args.self.now.walk))) c.from.ensures c.seen.ensures)
-
-pub Windows::in_order-loop-k-init : goal.Windows::in_order-loop-k-init
-Windows::in_order-loop-k-init t c =
-    let n = steps_few c.args.self.now.walk.steps.now in let h = c.args.self.now.high in
-    let z : c.args.parts ≡ c.args.parts - 0 = omega arith in
-    subst (λ (m : ℕ). Parts c.args.self.now.walk c.args.levels Shape m c.args.first × Reaches (fittings c.args.self.now.walk c.args.parts c.args.first) (fittings c.args.self.now.walk m c.args.first) c.args.self.now.s c.args.self.now.to (at c.start-reach.result)) z
-    (c.requires, reaches_start (fittings c.args.self.now.walk c.args.parts c.args.first) c.args.self.now.s c.args.self.now.to (at c.start-reach.result) (omega arith) c.start-reach.ensures c.start-reach.result.small)
-
-pub Windows::in_order-after-next-requires : goal.Windows::in_order-after-next-requires
-Windows::in_order-after-next-requires t c =
-    (Shape, any_deeper c.args.self.now.walk c.args.levels Shape c.loop-k.next (part_here c.args.self.now.walk c.args.levels Shape (c.args.parts - c.loop-k.k) (c.args.parts - (c.loop-k.k + 1)) c.loop-k.next (omega arith) c.loop-k.invariant.0))
-
-pub Windows::in_order-seen-requires : goal.Windows::in_order-seen-requires
-Windows::in_order-seen-requires t c =
-    let h = part_here c.args.self.now.walk c.args.levels Shape (c.args.parts - c.loop-k.k) (c.args.parts - (c.loop-k.k + 1)) c.loop-k.next (omega arith) c.loop-k.invariant.0 in
-    let l = h.reached in
-    (omega arith, record { deep = h.deep; reached = omega arith; stands = h.stands })
-
-pub Windows::in_order-loop-k-preserved : goal.Windows::in_order-loop-k-preserved
-Windows::in_order-loop-k-preserved t c =
-    let n = steps_few c.args.self.now.walk.steps.now in let h = c.args.self.now.high in
-    let p = one_part c.args.self.now.walk c.args.levels Shape (c.args.parts - c.loop-k.k) (c.args.parts - (c.loop-k.k + 1)) c.loop-k.next c.after-next.result (omega arith) c.after-next.ensures c.loop-k.invariant.0 in (
-      p.left,
-      reaches_more (fitting c.args.self.now.walk c.loop-k.next) (fittings c.args.self.now.walk c.args.parts c.args.first) (fittings c.args.self.now.walk (c.args.parts - (c.loop-k.k + 1)) c.after-next.result) c.args.self.now.s c.args.self.now.to (length (line c.args.self.now.walk)) c.seen.result (at c.loop-k.reach) (at c.advance-reach.result) (at c.earliest.result)
-          c.args.self.now.high (omega arith) (subst (λ (s : ℕ). Shows c.seen.result (fitting c.args.self.now.walk c.loop-k.next) (From s) c.args.self.now.to (length (line c.args.self.now.walk))) c.from.ensures c.seen.ensures) c.earliest.ensures c.advance-reach.ensures c.advance-reach.result.small
-          (subst (λ (R : List Rule). Reaches (fittings c.args.self.now.walk c.args.parts c.args.first) R c.args.self.now.s c.args.self.now.to (at c.loop-k.reach)) p.rules_are c.loop-k.invariant.1),
-    )
-
-pub Windows::in_order-returns : goal.Windows::in_order-returns
-Windows::in_order-returns t c =
-    let placed = reaches_all (fittings c.args.self.now.walk c.args.parts c.args.first) c.args.self.now.s c.args.self.now.to (at c.loop-k.reach) (subst (λ (R : List Rule). Reaches (fittings c.args.self.now.walk c.args.parts c.args.first) R c.args.self.now.s c.args.self.now.to (at c.loop-k.reach)) (rules_none (line c.args.self.now.walk) c.args.self.now.walk.records.now (c.args.parts - c.loop-k.k) c.loop-k.next (omega arith)) c.loop-k.invariant.1) in
-    λ a. (
-      λ u. (let r = (c.within.ensures a).0 u in (r.0, r.1, (placed a (a + c.args.self.now.len) r.0 (omega arith) r.1).1 r.2)),
-      λ h. (c.within.ensures a).1 (h.0, h.1, (placed a (a + c.args.self.now.len) h.0 (omega arith) h.1).0 h.2),
-    )
 
 pub Windows::starts-offset_bounds-self-i : goal.Windows::starts-offset_bounds-self-i
 Windows::starts-offset_bounds-self-i t c =
@@ -406,3 +273,80 @@ Windows::starts-returns-in_default t c =
     let o = opened c.args.levels c.args.self.now.walk.records.now Window c.args.i c.requires.deep c.requires.stands in
     subst (Begun c.args.self.now c.counted.result) (sym (as_count (line c.args.self.now.walk) c.args.levels c.args.self.now.walk.records.now c.args.i c.requires.deep o c.in_default.not-And c.in_default.not-Or c.in_default.not-Inorder).1)
     (subst (λ (m : Many). Begun c.args.self.now c.counted.result (counting (fitting c.args.self.now.walk (c.args.i + 1)) m)) c.many_of.ensures c.counted.ensures)
+
+pub Sight::any-loop-part-init : goal.Sight::any-loop-part-init
+Sight::any-loop-part-init t c =
+    let b : Either (fittings c.args.self.now.walk c.args.parts c.args.first) (fittings c.args.self.now.walk c.args.parts c.args.first) c.args.self.now.view c.args.self.now.to (length (line c.args.self.now.walk)) c.empty-out.result = search rules in
+    all_ahead c.args.self.now.walk c.args.levels Shape c.args.parts c.args.first (ahead c.into_iter-part-iterator.result) (λ (R : List Rule). Either (fittings c.args.self.now.walk c.args.parts c.args.first) R c.args.self.now.view c.args.self.now.to (length (line c.args.self.now.walk)) c.empty-out.result) (ap ahead c.into_iter-part-iterator.ensures.into_iter_gives ∙ c.parts-part-items.ensures) c.requires
+    b
+
+pub Sight::concat-after-requires : goal.Sight::concat-after-requires
+Sight::concat-after-requires t c =
+    ∣ (Shape, any_deeper c.args.self.now.walk c.args.levels Shape c.args.first (part_here c.args.self.now.walk c.args.levels Shape c.args.parts (c.args.parts - 1) c.args.first (let s = c.requires.some in omega arith) c.requires.stand)) ∣₁
+
+pub Sight::concat-parts-part-items-requires : goal.Sight::concat-parts-part-items-requires
+Sight::concat-parts-part-items-requires t c =
+    (c.args.levels, Shape, (one_part c.args.self.now.walk c.args.levels Shape c.args.parts (c.args.parts - 1) c.args.first c.after.result (let s = c.requires.some in omega arith) c.after.ensures c.requires.stand).left)
+
+pub Sight::concat-loop-part-init : goal.Sight::concat-loop-part-init
+Sight::concat-loop-part-init t c =
+    let p = one_part c.args.self.now.walk c.args.levels Shape c.args.parts (c.args.parts - 1) c.args.first c.after.result (let s = c.requires.some in omega arith) c.after.ensures c.requires.stand in
+    all_ahead c.args.self.now.walk c.args.levels Shape (c.args.parts - 1) c.after.result (ahead c.into_iter-part-iterator.result) (λ (R : List Rule). Sequel (fittings c.args.self.now.walk c.args.parts c.args.first) R c.args.self.now.view c.args.self.now.to (length (line c.args.self.now.walk)) c.part-out.result) (ap ahead c.into_iter-part-iterator.ensures.into_iter_gives ∙ c.parts-part-items.ensures) p.left
+    (subst (λ (R : List Rule). Sequel R (fittings c.args.self.now.walk (c.args.parts - 1) c.after.result) c.args.self.now.view c.args.self.now.to (length (line c.args.self.now.walk)) c.part-out.result) (sym p.rules_are)
+    (sequel_start c.args.self.now.view c.args.self.now.to (length (line c.args.self.now.walk)) c.args.self.now.high (fitting c.args.self.now.walk c.args.first) (fittings c.args.self.now.walk (c.args.parts - 1) c.after.result) c.part-out.result c.part-out.ensures))
+
+pub Sight::concat-own-requires : goal.Sight::concat-own-requires
+Sight::concat-own-requires t c =
+    any_deeper c.args.self.now.walk c.args.levels Shape c.in-Some.part (one_taken c.args.self.now.walk c.args.levels Shape c.in-Some.part (ahead c.loop-part.part-iterator) (ahead c.next.new.self) (λ (R : List Rule). Sequel (fittings c.args.self.now.walk c.args.parts c.args.first) R c.args.self.now.view c.args.self.now.to (length (line c.args.self.now.walk)) c.loop-part.out) c.in-Some.ensures.steps c.loop-part.invariant).0
+
+pub Sight::concat-loop-part-preserved : goal.Sight::concat-loop-part-preserved
+Sight::concat-loop-part-preserved t c =
+    let s = one_taken c.args.self.now.walk c.args.levels Shape c.in-Some.part (ahead c.loop-part.part-iterator) (ahead c.next.new.self) (λ (R : List Rule). Sequel (fittings c.args.self.now.walk c.args.parts c.args.first) R c.args.self.now.view c.args.self.now.to (length (line c.args.self.now.walk)) c.loop-part.out) c.in-Some.ensures.steps c.loop-part.invariant in
+    (s.1, sequel_more c.args.self.now.view c.args.self.now.to (length (line c.args.self.now.walk)) c.args.self.now.high (fittings c.args.self.now.walk c.args.parts c.args.first) (fitting c.args.self.now.walk c.in-Some.part) (map (fitting c.args.self.now.walk) (ahead c.next.new.self)) c.loop-part.out _ c.then-out.result c.own.ensures c.then-out.ensures s.2)
+
+pub Windows::all-loop-part-init : goal.Windows::all-loop-part-init
+Windows::all-loop-part-init t c =
+    let b : AllStart (fittings c.args.self.now.walk c.args.parts c.args.first) c.args.self.now.s c.args.self.now.len c.args.self.now.to (fittings c.args.self.now.walk c.args.parts c.args.first) (member c.range-out.result) = search rules in
+    all_ahead c.args.self.now.walk c.args.levels Count c.args.parts c.args.first (ahead c.into_iter-part-iterator.result) (λ (R : List Rule). AllStart (fittings c.args.self.now.walk c.args.parts c.args.first) c.args.self.now.s c.args.self.now.len c.args.self.now.to R (member c.range-out.result)) (ap ahead c.into_iter-part-iterator.ensures.into_iter_gives ∙ c.parts-part-items.ensures) c.requires
+    b
+
+pub Windows::all-starts-requires : goal.Windows::all-starts-requires
+Windows::all-starts-requires t c =
+    let s = (one_taken c.args.self.now.walk c.args.levels Count c.in-Some.part (ahead c.loop-part.part-iterator) (ahead c.next.new.self) (λ (R : List Rule). AllStart (fittings c.args.self.now.walk c.args.parts c.args.first) c.args.self.now.s c.args.self.now.len c.args.self.now.to R (member c.loop-part.out)) c.in-Some.ensures.steps c.loop-part.invariant).0 in
+    (omega arith, record { deep = s.deep; reached = s.reached; stands = count_window c.args.levels c.args.self.now.walk.records.now c.in-Some.part s.deep s.stands })
+
+pub Windows::either-loop-part-init : goal.Windows::either-loop-part-init
+Windows::either-loop-part-init t c =
+    let b : AnyStart (fittings c.args.self.now.walk c.args.parts c.args.first) c.args.self.now.s c.args.self.now.len c.args.self.now.to (fittings c.args.self.now.walk c.args.parts c.args.first) (member c.empty-out.result) = search rules in
+    all_ahead c.args.self.now.walk c.args.levels Count c.args.parts c.args.first (ahead c.into_iter-part-iterator.result) (λ (R : List Rule). AnyStart (fittings c.args.self.now.walk c.args.parts c.args.first) c.args.self.now.s c.args.self.now.len c.args.self.now.to R (member c.empty-out.result)) (ap ahead c.into_iter-part-iterator.ensures.into_iter_gives ∙ c.parts-part-items.ensures) c.requires
+    b
+
+pub Windows::either-starts-requires : goal.Windows::either-starts-requires
+Windows::either-starts-requires t c =
+    let s = (one_taken c.args.self.now.walk c.args.levels Count c.in-Some.part (ahead c.loop-part.part-iterator) (ahead c.next.new.self) (λ (R : List Rule). AnyStart (fittings c.args.self.now.walk c.args.parts c.args.first) c.args.self.now.s c.args.self.now.len c.args.self.now.to R (member c.loop-part.out)) c.in-Some.ensures.steps c.loop-part.invariant).0 in
+    (omega arith, record { deep = s.deep; reached = s.reached; stands = count_window c.args.levels c.args.self.now.walk.records.now c.in-Some.part s.deep s.stands })
+
+pub Windows::in_order-loop-part-init : goal.Windows::in_order-loop-part-init
+Windows::in_order-loop-part-init t c =
+    let n = steps_few c.args.self.now.walk.steps.now in
+    let h = c.args.self.now.high in
+    all_ahead c.args.self.now.walk c.args.levels Shape c.args.parts c.args.first (ahead c.into_iter-part-iterator.result) (λ (R : List Rule). Reaches (fittings c.args.self.now.walk c.args.parts c.args.first) R c.args.self.now.s c.args.self.now.to (at c.start-reach.result)) (ap ahead c.into_iter-part-iterator.ensures.into_iter_gives ∙ c.parts-part-items.ensures) c.requires
+    (reaches_start (fittings c.args.self.now.walk c.args.parts c.args.first) c.args.self.now.s c.args.self.now.to (at c.start-reach.result) (omega arith) c.start-reach.ensures c.start-reach.result.small)
+
+pub Windows::in_order-loop-part-preserved : goal.Windows::in_order-loop-part-preserved
+Windows::in_order-loop-part-preserved t c =
+    let n = steps_few c.args.self.now.walk.steps.now in
+    let h = c.args.self.now.high in
+    let s = one_taken c.args.self.now.walk c.args.levels Shape c.in-Some.part (ahead c.loop-part.part-iterator) (ahead c.next.new.self) (λ (R : List Rule). Reaches (fittings c.args.self.now.walk c.args.parts c.args.first) R c.args.self.now.s c.args.self.now.to (at c.loop-part.reach)) c.in-Some.ensures.steps c.loop-part.invariant in (
+      s.1,
+      reaches_more (fitting c.args.self.now.walk c.in-Some.part) (fittings c.args.self.now.walk c.args.parts c.args.first) (map (fitting c.args.self.now.walk) (ahead c.next.new.self)) c.args.self.now.s c.args.self.now.to (length (line c.args.self.now.walk)) c.seen.result (at c.loop-part.reach) (at c.advance-reach.result) (at c.earliest.result)
+          c.args.self.now.high (omega arith) (subst (λ (s : ℕ). Shows c.seen.result (fitting c.args.self.now.walk c.in-Some.part) (From s) c.args.self.now.to (length (line c.args.self.now.walk))) c.from.ensures c.seen.ensures) c.earliest.ensures c.advance-reach.ensures c.advance-reach.result.small s.2,
+    )
+
+pub Windows::in_order-returns : goal.Windows::in_order-returns
+Windows::in_order-returns t c =
+    let placed = reaches_all (fittings c.args.self.now.walk c.args.parts c.args.first) c.args.self.now.s c.args.self.now.to (at c.loop-part.reach) (subst (λ (ps : List ℕ). Reaches (fittings c.args.self.now.walk c.args.parts c.args.first) (map (fitting c.args.self.now.walk) ps) c.args.self.now.s c.args.self.now.to (at c.loop-part.reach)) c.in-None.ensures.steps.0 c.loop-part.invariant.1) in
+    λ a. (
+      λ u. (let r = (c.within.ensures a).0 u in (r.0, r.1, (placed a (a + c.args.self.now.len) r.0 (omega arith) r.1).1 r.2)),
+      λ h. (c.within.ensures a).1 (h.0, h.1, (placed a (a + c.args.self.now.len) h.0 (omega arith) h.1).0 h.2),
+    )

@@ -1,11 +1,12 @@
-use Rattle.std.proofs.Common.{◌≡◌, ℕ, ◌+◌, ◌-◌, ◌*◌, ◌<◌, ◌≤◌, true, length, Decides}
+use Rattle.std.proofs.Common.{◌≡◌, ℕ, ◌+◌, ◌*◌, ◌<◌, ◌≤◌, true, length, map, Decides}
 use Rattle.query.specs.declared.node.Role.TheVariants.{Shape, Count}
 use Rattle.ends.specs.Member.{member}
-use Rattle.wholes.specs.declared.view.View.{View}
 use Rattle.wholes.specs.Turns.{at}
 use Rattle.wholes.proofs.Joining.{Either, Sequel, AnyStart, AllStart}
 use Rattle.wholes.proofs.Placing.{Reaches}
-use Rattle.walk.specs.Seeing.{line, fitting, fittings, Parts}
+use Rattle.walk.specs.Places.{ahead}
+use Rattle.walk.specs.Seeing.{line, fitting, fittings}
+use Rattle.walk.proofs.Row.{AllStand}
 use Rattle.walk.proofs.sight.+walk.Given as goal
 
 abbrev pub decreases-Sight::any : goal.decreases-Sight::any
@@ -50,34 +51,32 @@ decreases-Windows::in_order l = 6 * l.levels + 5
 abbrev pub decreases-Windows::starts : goal.decreases-Windows::starts
 decreases-Windows::starts l = 6 * l.levels + 1
 
-abbrev pub invariant-Sight::any-loop-k : goal.invariant-Sight::any-loop-k
-invariant-Sight::any-loop-k l =
-    Parts l.self.walk l.levels Shape (l.parts - l.k) l.next
-    × Either (fittings l.self.walk l.parts l.first) (fittings l.self.walk (l.parts - l.k) l.next) l.self.view l.self.to (length (line l.self.walk)) l.out
+abbrev pub invariant-Sight::any-loop-part : goal.invariant-Sight::any-loop-part
+invariant-Sight::any-loop-part l =
+    AllStand l.self.walk l.levels Shape (ahead l.part-iterator)
+    × Either (fittings l.self.walk l.parts l.first) (map (fitting l.self.walk) (ahead l.part-iterator)) l.self.view l.self.to (length (line l.self.walk)) l.out
 
-abbrev pub invariant-Sight::concat-loop-k : goal.invariant-Sight::concat-loop-k
-invariant-Sight::concat-loop-k l =
-    Parts l.self.walk l.levels Shape (l.parts - l.k) l.next
-    × ((v : View) →
-    Sequel (fittings l.self.walk l.parts l.first) (fittings l.self.walk (l.parts - 1) l.initial.next) v l.self.to (length (line l.self.walk)) l.initial.out →
-    Sequel (fittings l.self.walk l.parts l.first) (fittings l.self.walk (l.parts - l.k) l.next) v l.self.to (length (line l.self.walk)) l.out)
+abbrev pub invariant-Sight::concat-loop-part : goal.invariant-Sight::concat-loop-part
+invariant-Sight::concat-loop-part l =
+    AllStand l.self.walk l.levels Shape (ahead l.part-iterator)
+    × Sequel (fittings l.self.walk l.parts l.first) (map (fitting l.self.walk) (ahead l.part-iterator)) l.self.view l.self.to (length (line l.self.walk)) l.out
 
 -- the starts below a are found
 abbrev pub invariant-Sight::own_starts-loop-a : goal.invariant-Sight::own_starts-loop-a
 invariant-Sight::own_starts-loop-a l =
     (x : ℕ) → Decides (member l.out x) ((x < l.a) × ((x + l.len ≤ l.self.to) × (fitting l.self.walk l.i x x (x + l.len) ≡ true)))
 
-abbrev pub invariant-Windows::all-loop-k : goal.invariant-Windows::all-loop-k
-invariant-Windows::all-loop-k l =
-    Parts l.self.walk l.levels Count (l.parts - l.k) l.next
-    × AllStart (fittings l.self.walk l.parts l.first) l.self.s l.self.len l.self.to (fittings l.self.walk (l.parts - l.k) l.next) (member l.out)
+abbrev pub invariant-Windows::all-loop-part : goal.invariant-Windows::all-loop-part
+invariant-Windows::all-loop-part l =
+    AllStand l.self.walk l.levels Count (ahead l.part-iterator)
+    × AllStart (fittings l.self.walk l.parts l.first) l.self.s l.self.len l.self.to (map (fitting l.self.walk) (ahead l.part-iterator)) (member l.out)
 
-abbrev pub invariant-Windows::either-loop-k : goal.invariant-Windows::either-loop-k
-invariant-Windows::either-loop-k l =
-    Parts l.self.walk l.levels Count (l.parts - l.k) l.next
-    × AnyStart (fittings l.self.walk l.parts l.first) l.self.s l.self.len l.self.to (fittings l.self.walk (l.parts - l.k) l.next) (member l.out)
+abbrev pub invariant-Windows::either-loop-part : goal.invariant-Windows::either-loop-part
+invariant-Windows::either-loop-part l =
+    AllStand l.self.walk l.levels Count (ahead l.part-iterator)
+    × AnyStart (fittings l.self.walk l.parts l.first) l.self.s l.self.len l.self.to (map (fitting l.self.walk) (ahead l.part-iterator)) (member l.out)
 
-abbrev pub invariant-Windows::in_order-loop-k : goal.invariant-Windows::in_order-loop-k
-invariant-Windows::in_order-loop-k l =
-    Parts l.self.walk l.levels Shape (l.parts - l.k) l.next
-    × Reaches (fittings l.self.walk l.parts l.first) (fittings l.self.walk (l.parts - l.k) l.next) l.self.s l.self.to (at l.reach)
+abbrev pub invariant-Windows::in_order-loop-part : goal.invariant-Windows::in_order-loop-part
+invariant-Windows::in_order-loop-part l =
+    AllStand l.self.walk l.levels Shape (ahead l.part-iterator)
+    × Reaches (fittings l.self.walk l.parts l.first) (map (fitting l.self.walk) (ahead l.part-iterator)) l.self.s l.self.to (at l.reach)
