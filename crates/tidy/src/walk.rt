@@ -1,10 +1,13 @@
 //! What is seen of queries where they lie: where one ends, its parts one by one, and whether two have equal parts.
 
-ghost use Rattle.std.specs.Prelude.{◌≡◌, ◌+◌, drop};
+ghost use Rattle.std.specs.Prelude.{◌≡◌, ◌+◌, List, drop};
 ghost use Rattle.std.specs.List.{list_all, zip};
 ghost use Rattle.std.specs.Iterator.{YieldsFirstBy, item_count};
 ghost use Rattle.query.specs.Stands.{at as recordAt};
-ghost use Rattle.rules.specs.Places.{size_first, inner as innerOf, same_inner, same_record as sameRecord, any_window};
+ghost use Rattle.query.specs.Tree.{Query, alike_each};
+ghost use Rattle.query.specs.declared.node.Node.{Node as Record};
+ghost use Rattle.rules.specs.Applies.{parts_of};
+ghost use Rattle.rules.specs.Places.{Here, size_first, inner as innerOf, same_inner, same_record as sameRecord, any_window};
 ghost use Rattle.tidy.specs.Outcomes.{reach as reaches};
 ghost use Rattle.tidy.specs.Rows.{place, places_of, SplitsOff};
 
@@ -76,7 +79,8 @@ impl<'a> Part<'a> {
 
     // Whether the other has equal parts, wherever their words lie.
     pub(crate) fn same_parts(self, other: Part) -> bool
-        ensures { result ≡ same_inner self.entry.records.now self.entry.at other.entry.records.now other.entry.at }
+        ensures inner { result ≡ same_inner self.entry.records.now self.entry.at other.entry.records.now other.entry.at }
+        ensures alike { (q r : Query) (rest last : List Record) → Here self.entry.records.now self.entry.at q rest → Here other.entry.records.now other.entry.at r last → result ≡ alike_each (parts_of q) (parts_of r) }
     {
         self.node().parts == other.node().parts && same_records(self.inner(), other.inner())
     }
