@@ -1,8 +1,10 @@
 -- A row of bytes of one class, step by step, and what a stream begins with.
-use Rattle.std.proofs.Common.{◌≡◌, ℕ, suc, ◌+◌, ◌<◌, ◌≤◌, Bool, true, false, cond, eqb, List, [], ◌∷◌, length, get_or, take, drop, sym, refl, ap, ◌∙◌, add-zero, arith, eq-eqb}
-use Rattle.std.proofs.lemmas.Bool.{eqb-true, both_ways}
+use Rattle.std.proofs.Common.{◌≡◌, ℕ, suc, ◌+◌, ◌<◌, ◌≤◌, Bool, true, false, cond, eqb, List, [], ◌∷◌, length, get_or, take, drop, Some, None, not, nat_lt, sym, refl, ap, ◌∙◌, add-zero, arith, eq-eqb}
+use Rattle.std.proofs.lemmas.Bool.{eqb-true, both_ways, ltb-false}
 use Rattle.std.proofs.lemmas.List.{at_drop_more, at_drop_all, drop-drop, get_or-drop, length-drop}
-use Rattle.std.specs.List.{prefix_len}
+use Rattle.std.proofs.lemmas.List.Sums.{prefix_len-le-length}
+use Rattle.std.specs.List.{prefix_len, position, position_or_len}
+use Rattle.std.specs.Option.{unwrap_or}
 use Rattle.words.specs.declared.Class.{Class}
 use Rattle.words.specs.declared.Class.TheVariants.{Blank, Letter, Digit, Open, Close, Other}
 use Rattle.words.specs.Words.{class, class_number, same, row, begins, Lexeme, name, number, Stream, ends, word, grow, glued, front, stream}
@@ -24,6 +26,28 @@ same_self k c e = eq-eqb (class_number k) (class_number c) (ap class_number (sym
 pub row_prefix : (k : Class) (bs : List ℕ) → prefix_len (λ b. same k (class b)) bs ≡ row k bs
 row_prefix k [] = refl
 row_prefix k (b ∷ bs) = let more = row_prefix k bs in grind arith
+
+-- the first byte of another class stands behind the row
+abbrev pub other : Class → ℕ → Bool
+other k b = not (same k (class b))
+
+row_is : (k : Class) (bs : List ℕ) → position_or_len (other k) bs ≡ prefix_len (λ b. same k (class b)) bs
+row_is k [] = refl
+row_is k (b ∷ bs) =
+    let rest = row_is k bs in
+    elim (same k (class b)) as (λ t. cond (not (not t)) (1 + position_or_len (other k) bs) 0 ≡ cond t (1 + prefix_len (λ b. same k (class b)) bs) 0) [
+      | true ↦ ap (λ n. 1 + n) rest
+      | false ↦ refl
+    ]
+
+pub row_at_other : (k : Class) (bs : List ℕ) → unwrap_or (position (other k) bs) (length bs) ≡ prefix_len (λ b. same k (class b)) bs
+row_at_other k bs =
+    let at = position_or_len (other k) bs in
+    (elim (nat_lt at (length bs)) as (λ t. nat_lt at (length bs) ≡ t → unwrap_or (cond t (Some at) None) (length bs) ≡ at) [
+      | true ↦ λ e. refl
+      | false ↦ λ e. omega (arith, prefix_len-le-length (λ b. not (other k b)) bs, ltb-false at (length bs) e)
+    ] refl)
+    ∙ row_is k bs
 
 is_class : (k c : Class) → same k c ≡ true → c ≡ k
 is_class k c e = sym (back c) ∙ ap decode (sym (eqb-true (class_number k) (class_number c) e)) ∙ back k

@@ -47,8 +47,8 @@ fn class_of(byte: u8) -> Class
     ensures { result ≡ class byte }
 {
     match byte {
-        b'A'..=b'Z' | b'a'..=b'z' => Class::Letter,
-        b'0'..=b'9' => Class::Digit,
+        _ if byte.is_ascii_alphabetic() => Class::Letter,
+        _ if byte.is_ascii_digit() => Class::Digit,
         b'(' => Class::Open,
         b')' => Class::Close,
         b' ' | b'\t' | b'\r' | b'\n' => Class::Blank,
@@ -56,10 +56,16 @@ fn class_of(byte: u8) -> Class
     }
 }
 
+// The classes of rows are told by their own bytes alone: a reader asks this of each byte.
 fn is_of(byte: u8, row_class: Class) -> bool
     ensures { result ≡ same row_class (class byte) }
 {
-    class_of(byte) == row_class
+    match row_class {
+        Class::Blank => matches!(byte, b' ' | b'\t' | b'\r' | b'\n'),
+        Class::Letter => byte.is_ascii_alphabetic(),
+        Class::Digit => byte.is_ascii_digit(),
+        Class::Open | Class::Close | Class::Other => class_of(byte) == row_class,
+    }
 }
 
 // How many bytes of one class stand in front.
@@ -69,8 +75,8 @@ fn row_length(bytes: &[u8], row_class: Class) -> usize
 {
     bytes
         .iter()
-        .take_while(|byte| is_of(**byte, row_class))
-        .count()
+        .position(|byte| !is_of(*byte, row_class))
+        .unwrap_or(bytes.len())
 }
 
 impl<'a> Reader<'a> {
