@@ -2,6 +2,7 @@ pub mod Runs
 pub mod Tables
 pub mod Words
 pub mod Sheets
+pub mod Narrow
 pub mod TablesLemmas
 pub mod Composed
 pub mod Longest

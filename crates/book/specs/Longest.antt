@@ -1,5 +1,5 @@
 -- A run reaches just as far as the words have the symbol.
-use Rattle.std.specs.Prelude.{◌≡◌, ℕ, zero, suc, ◌+◌, ◌<◌, ◌≤◌, true, false, cond, ◌&&◌, ltb, List, [], ◌∷◌, length, drop, nat_lt, slice_index, refl}
+use Rattle.std.specs.Prelude.{◌≡◌, ℕ, zero, suc, ◌+◌, ◌-◌, ◌<◌, ◌≤◌, true, false, cond, ◌&&◌, ltb, List, [], ◌∷◌, length, drop, nat_lt, slice_index, refl}
 use Rattle.std.specs.List.{prefix_len, take_while}
 use Rattle.std.proofs.Common.{sym, ap, ap₂, ◌∙◌, ⊎_elim, arith}
 use Rattle.std.proofs.Math.Dec.{leb-suc-suc}
@@ -71,6 +71,15 @@ run_is ws j t k all stop =
     let far = at_most ws j t k (run_from ws j t) all (run_stops ws j t) in
     let near = at_most ws j t (run_from ws j t) k (run_marked ws j t) stop in
     omega arith
+
+-- a look along the steps from t on has come to step e: one step more has the symbol, or the run ends
+module _ (ws : List ℕ) (j t e : ℕ) (from : t ≤ e) (all : AllMarked ws j t (e - t)) where
+  pub run_more : marked ws j e ≡ true → AllMarked ws j t (e + 1 - t)
+  run_more on i h =
+      ⊎_elim (λ below. all i below) (λ last. let here : t + i ≡ e = omega arith in rw here on) (cases_lt i (e - t))
+
+  pub run_ends : marked ws j e ≡ false → e - t ≡ run_from ws j t
+  run_ends off = let here : t + (e - t) ≡ e = omega arith in sym (run_is ws j t (e - t) all (rw here off))
 
 -- a step is marked just where a run goes on from it
 pub marked_run : (ws : List ℕ) (j t : ℕ) → marked ws j t ≡ nat_lt 0 (run_from ws j t)

@@ -11,7 +11,7 @@ use Rattle.word.specs.Words.{has}
 use Rattle.word.proofs.Bits.{has_word, word_below, has_past}
 use Rattle.book.specs.declared.row.Row.{Row}
 use Rattle.book.specs.declared.run.Run.{Run}
-use Rattle.book.specs.Words.{added, dropped, marked, run_from}
+use Rattle.book.specs.Words.{roomy, added, droppable, dropped, marked, run_from}
 use Rattle.book.specs.Runs.{left, carried, formed, Pushed, Popped}
 use Rattle.book.specs.Tables.{row_runs, runs_of, Formed, word_at, table_words}
 use Rattle.book.specs.Composed.{word_of_same, word_of_has}
@@ -79,6 +79,10 @@ module _ (rows : List Row) (n : ℕ) (long : length rows ≡ 32) (f : Formed n r
       let next = left_next n (runs_of rows j) (t + i) (f j) (omega arith) in
       let place : t + suc i ≡ t + i + 1 = omega arith in
       rw place (omega arith)
+
+  pub none_left : (j t : ℕ) → 32 ≤ j → left (runs_of rows j) t ≡ 0
+  unfolding left
+  none_left j t none = ap (λ runs. left runs t) (runs_past rows j (omega arith))
 
   pub run_is_left : (j t : ℕ) → left (runs_of rows j) t ≡ run_from (table_words rows n) j t
   run_is_left j t =
@@ -165,3 +169,10 @@ done_more R rows after k d row inside done here =
           (λ (other : j ≢ k). rw (set_other after k j row other) (done.0 j (omega arith))) (cases_eq j k),
       λ j above. let other : j ≢ k = omega arith in set_other after k j row other ∙ done.1 j (omega arith),
     )
+
+-- whether a word can be put at the end, and whether one can be taken off
+pub roomy_is : (rows : List Row) (n : ℕ) → n < 255 → true ≡ roomy (table_words rows n)
+roomy_is rows n room = sym (lt-ltb (length (table_words rows n)) 255 (rw size_is room))
+
+pub droppable_is : (rows : List Row) (n : ℕ) → 0 < n → true ≡ droppable (table_words rows n)
+droppable_is rows n some = sym (lt-ltb 0 (length (table_words rows n)) (rw size_is some))

@@ -18,13 +18,21 @@ pub struct WordSheet {
     ghost narrow: { (t : ℕ) → slice_index (listed words) t < 2 ^ 32 },
 }
 
+/// The words from the step on.
+// A slice and no `skip`, which would go past each word before the step.
+#[tactic(auto, using(std::proofs::lemmas::List::drop_min))]
+fn words_from(words: &[u32], step: usize) -> &[u32]
+    ensures { result.now ≡ drop step words.now }
+{
+    &words[step.min(words.len())..]
+}
+
 /// How many words from the step on, one after another, have the symbol.
 fn run_of(words: &[u32], symbol: u8, step: usize) -> usize
     ensures { result ≡ length (take_while (λ word. has word symbol) (drop step words.now)) }
 {
-    words
+    words_from(words, step)
         .iter()
-        .skip(step)
         .take_while(|word| carries(**word, symbol))
         .count()
 }

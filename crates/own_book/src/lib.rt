@@ -19,13 +19,20 @@ pub struct Pile {
     ghost narrow: { (i : ℕ) → slice_index (piled words) i < 2 ^ 32 },
 }
 
-/// How many words from the step on, one after another, have the symbol.
-fn run_of(pile: &[u32], symbol: u8, step: usize) -> usize
-    ensures { result ≡ length (take_while (λ word. has word symbol) (drop step (reverse pile.now))) }
+/// The words from the step on, which lie in front of those before it.
+#[tactic(auto, using(crate::specs::Piles::from_step))]
+fn words_from(pile: &[u32], step: usize) -> &[u32]
+    ensures { reverse result.now ≡ drop step (reverse pile.now) }
+{
+    &pile[..pile.len().saturating_sub(step)]
+}
+
+/// How many words, one after another, have the symbol.
+fn run_of(pile: &[u32], symbol: u8) -> usize
+    ensures { result ≡ length (take_while (λ word. has word symbol) (reverse pile.now)) }
 {
     pile.iter()
         .rev()
-        .skip(step)
         .take_while(|word| carries(**word, symbol))
         .count()
 }
@@ -68,16 +75,13 @@ impl RunBook for Pile {
     }
 
     fn mark(&mut self, symbol: u8, step: usize) -> bool {
-        self.words
-            .as_slice()
-            .iter()
-            .rev()
-            .nth(step)
+        words_from(self.words.as_slice(), step)
+            .last()
             .is_some_and(|word| carries(*word, symbol))
     }
 
     fn run(&mut self, symbol: u8, step: usize) -> usize {
-        run_of(self.words.as_slice(), symbol, step)
+        run_of(words_from(self.words.as_slice(), step), symbol)
     }
 }
 
