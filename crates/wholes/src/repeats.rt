@@ -52,6 +52,8 @@ fn repeat_row(first: &Table, reached: &Ends, later: &Table, stops: &Ends, null: 
 }
 
 /// A repeat: a first piece of the opening table that no piece comes before, what may follow it, and a stop.
+// Out of line: else a walk that calls it has these tables on the stack at each of its levels.
+#[inline(never)]
 pub fn repeat(opening: &Table, later: &Table, stops: &Ends, many: Many, view: View, to: u8) -> Table
     ensures { (P : Rule) (n : ℕ) → to ≤ n → n < 256 → Shows opening.now P view to n → Later later.now P many n → Stops stops.now P n → Shows result (repeated n P many) view to n }
 {

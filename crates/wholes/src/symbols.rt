@@ -9,6 +9,8 @@ use steps::Steps;
 use tables::Table;
 
 /// The steps that carry a symbol.
+// Out of line, as the other wholes are: what goes down through a query then has one table less on the stack at each level.
+#[inline(never)]
 pub fn symbol(steps: &Steps, number: u8, view: View, to: u8) -> Table
     requires { to ≤ length (steps_of steps.now) }
     ensures { Shows result (carrying (steps_of steps.now) number) view to (length (steps_of steps.now)) }
