@@ -1,5 +1,6 @@
 mod Padding
 mod Promised
+pub mod Names
 mod Bound
 mod Rereading
 mod Written

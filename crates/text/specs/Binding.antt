@@ -1,5 +1,5 @@
 -- What the names of a query that was read are bound to. Assumes nothing.
-use Rattle.std.specs.Prelude.{ℕ, cond, List, [], ◌∷◌, ◌++◌, map, length, take, drop, Some, None, Option, nat_lt}
+use Rattle.std.specs.Prelude.{◌≡◌, ℕ, ◌+◌, ◌≤◌, true, cond, List, [], ◌∷◌, ◌++◌, map, length, take, drop, Some, None, Option, nat_lt}
 use Rattle.alphabet.specs.Names.{index_of}
 use Rattle.query.specs.declared.node.Node.{Node}
 use Rattle.query.specs.declared.node.Stage.TheVariants.{Read}
@@ -7,6 +7,10 @@ use Rattle.query.specs.Stands.{is_query}
 use Rattle.grammar.specs.Spelling.{is_symbol}
 use Rattle.text.specs.declared.fault.BindFault.{BindFault}
 use Rattle.text.specs.declared.fault.BindFault.TheVariants.{Sheet, Records, Name}
+
+-- the word of a symbol lies in a text of so many bytes
+abbrev pub Lies : ℕ → Node → Type 0
+Lies size x = is_symbol x.kind ≡ true → x.place + x.length ≤ size
 
 -- the bytes of a record's word
 abbrev pub word_at : List ℕ → Node → List ℕ

@@ -20,8 +20,9 @@ pub fn read(text: &[u8], sheet: &mut [Node]) -> Result<ReadShape, ReadFault>
     if is_short(sheet) {
         return Err(ReadFault::Sheet);
     }
+    let parsed = parse(text);
     sheet.fill(Node::blank());
-    let machine = parse(text)?;
+    let machine = parsed?;
     let records = machine.records();
     sheet[..records.len()].copy_from_slice(records);
     Ok(ReadShape {
