@@ -1,4 +1,5 @@
 pub mod Finding
+pub mod Comparing
 pub mod Changing
 pub mod Editing
 pub mod Stepping

@@ -1,13 +1,13 @@
 //! What is seen of queries where they lie: where one ends, its parts one by one, and whether two have equal parts.
 
-ghost use Rattle.std.specs.Prelude.{◌≡◌, ◌+◌, List, drop};
+ghost use Rattle.std.specs.Prelude.{◌≡◌, ◌+◌, true, List, take, drop};
 ghost use Rattle.std.specs.List.{list_all, zip};
 ghost use Rattle.std.specs.Iterator.{YieldsFirstBy, item_count};
 ghost use Rattle.query.specs.Stands.{at as recordAt};
 ghost use Rattle.query.specs.Tree.{Query, alike_each};
 ghost use Rattle.query.specs.declared.node.Node.{Node as Record};
 ghost use Rattle.rules.specs.Applies.{parts_of};
-ghost use Rattle.rules.specs.Places.{Here, size_first, inner as innerOf, same_inner, same_record as sameRecord, any_window};
+ghost use Rattle.rules.specs.Places.{Here, stand_first, size_first, inner as innerOf, same_inner, same_record as sameRecord, any_window};
 ghost use Rattle.tidy.specs.Outcomes.{reach as reaches};
 ghost use Rattle.tidy.specs.Rows.{place, places_of, SplitsOff};
 
@@ -21,11 +21,22 @@ pub(crate) fn same_record(x: Node, y: Node) -> bool
     (x.kind, x.number, x.parts) == (y.kind, y.number, y.parts)
 }
 
-// Whether the records are the same one by one, as far as both go.
-fn same_records(xs: &[Node], ys: &[Node]) -> bool
-    ensures { result ≡ list_all (λ p. sameRecord p.0 p.1) (zip xs.now ys.now) }
+// Whether the records of so many queries at the head of the one list are the same, one by one, as those at the head of the other, as far as both go.
+fn same_first(parts: u8, xs: &[Node], ys: &[Node]) -> bool
+    requires stand { stand_first parts xs.now ≡ true }
+    ensures { result ≡ list_all (λ p. sameRecord p.0 p.1) (zip (take (size_first parts xs.now) xs.now) (take (size_first parts ys.now) ys.now)) }
 {
-    xs.iter().zip(ys).all(|(x, y)| same_record(*x, *y))
+    let mut left = usize::from(parts);
+    for (x, y) in xs.iter().zip(ys) {
+        if left == 0 {
+            return true;
+        }
+        if !same_record(*x, *y) {
+            return false;
+        }
+        left = left - 1 + usize::from(x.parts);
+    }
+    true
 }
 
 impl<'a> Part<'a> {
@@ -48,6 +59,13 @@ impl<'a> Part<'a> {
             left = left - 1 + self.records[next].parts as usize;
         }
         self.records.len()
+    }
+
+    // The records behind its own.
+    fn behind(self) -> &'a [Node]
+        ensures { result.now ≡ drop (self.entry.at + 1) self.entry.records.now }
+    {
+        &self.records[self.at + 1..]
     }
 
     // The records of its parts.
@@ -82,7 +100,8 @@ impl<'a> Part<'a> {
         ensures inner { result ≡ same_inner self.entry.records.now self.entry.at other.entry.records.now other.entry.at }
         ensures alike { (q r : Query) (rest last : List Record) → Here self.entry.records.now self.entry.at q rest → Here other.entry.records.now other.entry.at r last → result ≡ alike_each (parts_of q) (parts_of r) }
     {
-        self.node().parts == other.node().parts && same_records(self.inner(), other.inner())
+        let parts = self.node().parts;
+        parts == other.node().parts && same_first(parts, self.behind(), other.behind())
     }
 }
 
