@@ -53,10 +53,10 @@ impl<'a> Part<'a> {
     {
         let mut left: usize = 1;
         for next in self.at..self.records.len() {
-            if left == 0 {
-                return next;
-            }
             left = left - 1 + self.records[next].parts as usize;
+            if left == 0 {
+                return next + 1;
+            }
         }
         self.records.len()
     }
