@@ -1,6 +1,7 @@
 //! Reading: a text into the records of the query that it spells.
 
-ghost use Rattle.std.specs.Prelude.{◌≡◌, ℕ, ◌<◌, ◌≤◌, true, ◌↔◌, List, length, is_ok, Result};
+ghost use Rattle.std.specs.Prelude.{◌≡◌, ℕ, ◌<◌, ◌≤◌, true, ◌↔◌, List, length, replicate, is_ok, Result};
+ghost use Rattle.query.specs.Stands.{blank};
 ghost use Rattle.text.specs.Reading.{reading, answered, left_in};
 ghost use Rattle.text.specs.Promise.{Means, Readable};
 
@@ -8,6 +9,13 @@ use crate::sheet::is_short;
 use crate::{ReadFault, ReadShape};
 use parser::parse;
 use query::Node;
+
+// Blanks all records of the sheet.
+fn clear(sheet: &mut [Node])
+    ensures { sheet.new ≡ replicate (length sheet.old) blank }
+{
+    sheet.fill(Node::blank());
+}
 
 /// Reads a text into the lent sheet: the records of the query that it spells, and blank ones behind them.
 pub fn read(text: &[u8], sheet: &mut [Node]) -> Result<ReadShape, ReadFault>
@@ -21,7 +29,7 @@ pub fn read(text: &[u8], sheet: &mut [Node]) -> Result<ReadShape, ReadFault>
         return Err(ReadFault::Sheet);
     }
     let parsed = parse(text);
-    sheet.fill(Node::blank());
+    clear(sheet);
     let machine = parsed?;
     let records = machine.records();
     sheet[..records.len()].copy_from_slice(records);

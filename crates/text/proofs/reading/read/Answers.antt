@@ -1,4 +1,5 @@
-use Rattle.std.proofs.Common.{◌≡◌, ◌≤◌, [], ◌++◌, drop, length, Ok, sym, ◌∙◌, rules, ltb-false}
+use Rattle.std.proofs.Common.{◌≡◌, ◌≤◌, [], ◌++◌, drop, length, Ok, sym, refl, ◌∙◌, rules, ltb-false}
+use Rattle.query.specs.Stands.{blank}
 use Rattle.parser.specs.Seen.{seen}
 use Rattle.text.specs.Reading.{padded}
 use Rattle.text.proofs.Padding.{blanks, in_front}
@@ -10,9 +11,9 @@ returns-in_err-machine c =
     let text = c.args.text.now in
     let before = c.args.sheet.now in
     let room : 64 ≤ length before = ltb-false (length before) 64 (sym c.if-is_short.ensures) in
-    let left : c.fill.new.self ≡ padded [] (length before) = blanks c.blank.result c.fill.new.self (length before) c.blank.ensures (c.fill.ensures.after (λ y e. e)) in
+    let left : c.clear.new.sheet ≡ padded [] (length before) = blanks blank c.clear.new.sheet (length before) refl c.clear.ensures in
     let f = of_refused text before c.in_err-machine.field-0.0 room (search rules) in
-    let is : Of text before c.from_residual.result c.fill.new.self = (search rules, left ∙ f.1) in
+    let is : Of text before c.from_residual.result c.clear.new.sheet = (search rules, left ∙ f.1) in
     record { answer = is.0; sheet = is.1; right = promised text before _ _ is; only = promised_only text before _ _ is; accepts = promised_accepts text before _ _ is }
 
 pub returns : goal.returns
@@ -21,6 +22,6 @@ returns c =
     let before = c.args.sheet.now in
     let room : 64 ≤ length before = ltb-false (length before) 64 (sym c.if-is_short.ensures) in
     let f = of_read text before (seen c.in_ok-machine.machine) room (search rules) in
-    let left = in_front c.records-records.result.now c.fill.new.self c.blank.result (length before) c.blank.ensures (c.fill.ensures.after (λ y e. e)) in
-    let is : Of text before (Ok (record { records = length c.records-records.result.now })) (c.copy_from_slice.new.self ++ drop (length c.records-records.result.now) c.fill.new.self) = (search rules, search rules) in
+    let left = in_front c.records-records.result.now c.clear.new.sheet blank (length before) refl c.clear.ensures in
+    let is : Of text before (Ok (record { records = length c.records-records.result.now })) (c.copy_from_slice.new.self ++ drop (length c.records-records.result.now) c.clear.new.sheet) = (search rules, search rules) in
     record { answer = is.0; sheet = is.1; right = promised text before _ _ is; only = promised_only text before _ _ is; accepts = promised_accepts text before _ _ is }
