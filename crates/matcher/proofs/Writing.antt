@@ -7,14 +7,16 @@ use Rattle.std.proofs.lemmas.Bool.Decides.{same_from_decides}
 use Rattle.shape.specs.declared.stretch.Stretch.{Stretch}
 use Rattle.shape.specs.Ranges.{stretch, row_from, rows_from, inside}
 use Rattle.shape.specs.Fits.{Rule}
-use Rattle.ends.specs.Member.{tally}
+use Rattle.ends.specs.declared.Ends.{Ends}
+use Rattle.ends.specs.Member.{member, tally}
+use Rattle.ends.specs.Positions.{members}
 use Rattle.tables.specs.declared.table.Table.{Table}
 use Rattle.tables.specs.Holds.{holds, Held}
 use Rattle.tables.proofs.Sums.{rows_more}
 use Rattle.wholes.specs.declared.view.View.TheVariants.{From}
 use Rattle.wholes.specs.Shows.{Shows}
 use Rattle.wholes.proofs.Counts.{inside_same}
-use Rattle.matcher.specs.Answers.{Puts}
+use Rattle.matcher.specs.Answers.{Puts, stretches}
 
 -- the positions that pass a test
 module _ (m : ℕ → Bool) where
@@ -57,6 +59,10 @@ module _ (m : ℕ → Bool) where
           ≡ cond t (stretch a x ∷ row_from d a (suc x) test) (row_from d a (suc x) test)
       here true r = ap (λ (l : List Stretch). stretch a x ∷ l) r
       here false r = r
+
+-- there are as many stretches to the ends of a row as it has ends
+pub length_stretches : (a : ℕ) (row : Ends) → length (stretches a row) ≡ tally 256 0 (member row)
+length_stretches a row = length-map (members row) (stretch a) ∙ sym (length_listed (member row) 256 0)
 
 -- the stretches to the ends of a row, where each stretch of the test rises and ends on the line
 pub row_listed : (test : ℕ → ℕ → Bool) (row : ℕ → Bool) (a n : ℕ) → a < n → n < 256 → ((x y : ℕ) → test x y ≡ true → (x < y) × (y ≤ n)) → ((k : ℕ) → row k ≡ test a k) →

@@ -1,8 +1,10 @@
 //! The stretches that a query fits, seen from the line's first position.
 
-ghost use Rattle.std.specs.Prelude.{◌≡◌, ◌+◌, ◌≤◌, length};
+ghost use Rattle.std.specs.Prelude.{◌≡◌, ℕ, ◌+◌, ◌≤◌, length};
 ghost use Rattle.shape.specs.Fits.{fits};
 ghost use Rattle.shape.specs.Listing.{listing};
+ghost use Rattle.ends.specs.Member.{member};
+ghost use Rattle.tables.specs.Holds.{holds};
 ghost use Rattle.wholes.specs.declared.view.View.TheVariants.{From};
 ghost use Rattle.wholes.specs.Shows.{Shows};
 ghost use Rattle.matcher.specs.Answers.{Listed, Puts, in_front, room_for, list_out, stretches};
@@ -18,6 +20,7 @@ use walk::{Kept, Sight, Walk, keep};
 use wholes::View;
 
 // Writes the stretches from a to each end of the row at a place, and answers the place behind them.
+#[tactic(auto, using(crate::proofs::Writing::length_stretches, ends::proofs::Tallies::tally_le))]
 fn write_row(a: u8, row: &Ends, out: &mut [Stretch], place: usize) -> usize
     requires { place + length (stretches a row.now) ≤ length out.old }
     ensures written { Puts out.old out.new (stretches a row.now) place }
@@ -30,6 +33,13 @@ fn write_row(a: u8, row: &Ends, out: &mut [Stretch], place: usize) -> usize
 }
 
 impl Found {
+    // The ends of those that begin at a position.
+    fn row(&self, start: u8) -> Ends
+        ensures { (k : ℕ) → member result k ≡ holds self.now.table start k }
+    {
+        self.table.row(start)
+    }
+
     // How many they are.
     fn count(&self) -> usize
         ensures { result ≡ length (all self.now) }
@@ -44,7 +54,7 @@ impl Found {
     {
         let mut place = 0;
         for a in 0..self.n {
-            let row = self.table.row(a);
+            let row = self.row(a);
             place = write_row(a, &row, out, place);
         }
     }

@@ -1,5 +1,5 @@
-use Rattle.std.proofs.Common.{◌≡◌, ℕ, ◌+◌, List, [], ◌∷◌, ◌++◌, length, map, refl, ap, sym, ◌∙◌, subst, append_assoc, append-nil, arith, rules}
-use Rattle.std.proofs.lemmas.List.{length-append, length-map}
+use Rattle.std.proofs.Common.{◌≡◌, ℕ, List, [], ◌∷◌, ◌++◌, length, map, refl, ap, sym, ◌∙◌, subst, append_assoc, append-nil, arith, rules}
+use Rattle.std.proofs.lemmas.List.{length-append}
 use Rattle.shape.specs.Ranges.{stretch}
 use Rattle.ends.specs.Member.{member}
 use Rattle.ends.specs.Positions.{left, members}
@@ -40,17 +40,6 @@ loop-i-preserved c =
       omega arith,
       puts_more c.args.out.now c.loop-i.out c.loop-i.yielded c.args.place c.loop-i.i c.args.a c.in-Some.b d (bounds-out-place c) c.loop-i.invariant.3,
     )
-
-pub returns-clause-next : goal.returns-clause-next
-returns-clause-next c =
-    let e = c.len.ensures ∙ length_listed (member c.args.row.now) 256 0 ∙ sym (length-map (members c.args.row.now) (stretch c.args.a)) in
-    ap (λ (n : ℕ). c.args.place + n) e
-
-pub overflow_add-result : goal.overflow_add-result
-overflow_add-result c =
-    let e = returns-clause-next c in
-    let q = c.requires in
-    search rules
 
 pub returns-clause-written : goal.returns-clause-written
 returns-clause-written c =

@@ -23,5 +23,5 @@ returns c =
     let room : 64 ≤ length before = ltb-false (length before) 64 (sym c.if-is_short.ensures) in
     let f = of_read text before (seen c.in_ok-machine.machine) room (search rules) in
     let left = in_front c.records-records.result.now c.clear.new.sheet blank (length before) refl c.clear.ensures in
-    let is : Of text before (Ok (record { records = length c.records-records.result.now })) (c.copy_from_slice.new.self ++ drop (length c.records-records.result.now) c.clear.new.sheet) = (search rules, search rules) in
+    let is : Of text before (Ok (record { records = _ })) (c.copy_from_slice.new.self ++ drop (length c.records-records.result.now) c.clear.new.sheet) = (search rules, search rules) in
     record { answer = is.0; sheet = is.1; right = promised text before _ _ is; only = promised_only text before _ _ is; accepts = promised_accepts text before _ _ is }

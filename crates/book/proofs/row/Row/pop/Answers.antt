@@ -24,4 +24,5 @@ pub returns-else-newest-eq1 : goal.returns-else-newest-eq1
 returns-else-newest-eq1 c =
     let runs = piled c.args.self.now.runs in
     let some = some_row _ c.in-Some.newest runs (search rules) c.requires in
-    rw c.turn.ensures (shorter_row c.args.step c.in-Some.newest runs (search rules) c.requires (omega (arith, c.end.ensures, c.from.ensures)) (search rules))
+    let r = shorter_row c.args.step c.in-Some.newest runs (search rules) c.requires (omega (arith, c.end.ensures, c.from.ensures)) (search rules) in
+    search rules
