@@ -20,7 +20,7 @@ use walk::{Kept, Sight, Walk, keep};
 use wholes::View;
 
 // Writes the stretches from a to each end of the row at a place, and answers the place behind them.
-#[tactic(auto, using(crate::proofs::Writing::length_stretches, ends::proofs::Tallies::tally_le))]
+#[tactic(auto, using(crate::proofs::Writing::length_stretches))]
 fn write_row(a: u8, row: &Ends, out: &mut [Stretch], place: usize) -> usize
     requires { place + length (stretches a row.now) ≤ length out.old }
     ensures written { Puts out.old out.new (stretches a row.now) place }
